@@ -1,0 +1,17 @@
+pub mod Inserting
+pub mod Chaining
+pub mod Timing
+pub mod Keeping
+pub mod Changing
+pub mod Serving
+pub mod Counting
+pub mod Sound
+pub mod Taking
+pub mod Moving
+pub mod Riding
+pub mod Finding
+pub mod Boarding
+pub mod Stepping
+pub mod Promising
+pub mod Ahead
+pub mod Doing

@@ -1,0 +1,10 @@
+pub mod Boards
+pub mod Steps
+pub mod Histories
+pub mod Promises
+pub mod Laws
+pub mod Samples
+pub use Rattle.insertion_cost.specs.Prices
+pub use Rattle.insertion_cost.specs.Distances
+pub use Rattle.insertion_cost.specs.Offers
+pub use Rattle.stop_advance.specs.Advance

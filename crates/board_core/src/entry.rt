@@ -1,0 +1,57 @@
+use insertion_cost::Decision;
+use ride_base::{Items, RequestNo, VehicleNo};
+use stop_advance::Served;
+use stop_schedule::Request;
+
+/// Why a request is refused; the first that holds, in this order.
+#[derive(Clone, Copy, Debug, PartialEq, Eq)]
+pub enum Reason {
+    /// The board is closed.
+    Closed,
+    /// The pickup or the dropoff is no node of the graph.
+    Place,
+    /// The riders aren't 1 to 16.
+    Riders,
+    /// The moment is before the clock, or past 2^40.
+    Moment,
+    /// The number was accepted before.
+    Repeated,
+}
+
+/// What became of a request that was submitted.
+#[derive(Clone, Copy, Debug, PartialEq, Eq)]
+pub enum Submitted {
+    /// It waits.
+    Accepted,
+    /// It was refused, and nothing but the version changed.
+    Refused(Reason),
+}
+
+/// What became of a move of the clock.
+#[derive(Debug, PartialEq, Eq, Drop)]
+pub enum Advanced {
+    /// The clock moved, and these stops were reached, by rising vehicle number and then in their order.
+    Moved(Items<(VehicleNo, Served)>),
+    /// It was behind the clock, which stays; nothing but the version changed.
+    Back {
+        /// The clock.
+        clock: u64,
+    },
+}
+
+/// One event of a board.
+#[derive(Debug, PartialEq, Eq, Drop)]
+pub enum Entry {
+    /// A request was submitted.
+    Submit(Request, Submitted),
+    /// A desk took the oldest waiting request that no desk held.
+    Claim(RequestNo, u64),
+    /// A desk gave a request back.
+    Back(RequestNo),
+    /// A request was answered.
+    Commit(RequestNo, Decision),
+    /// The clock was to move to this moment.
+    Advance(u64, Advanced),
+    /// The board was closed.
+    Shut,
+}

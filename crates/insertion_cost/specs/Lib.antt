@@ -1,0 +1,15 @@
+pub mod Prices
+pub mod Distances
+pub mod Offers
+pub mod Sooner
+pub mod Spans
+pub mod Changes
+pub mod Drives
+pub mod Samples
+pub use Rattle.stop_schedule.specs.Rates
+pub use Rattle.stop_schedule.specs.Plans
+pub use Rattle.stop_schedule.specs.Times
+pub use Rattle.stop_schedule.specs.Fronts
+pub use Rattle.stop_schedule.specs.Lists
+pub use Rattle.stop_schedule.specs.Keeping
+pub use Rattle.stop_schedule.specs.Fleets

@@ -1,0 +1,57 @@
+use Rattle.std.specs.Prelude.{◌≡◌, ℕ, List, Some, slice_get}
+use Rattle.std.specs.Ordering.{nat_cmp, ordering_then}
+use Rattle.std.specs.declared.cmp.Ordering.{Ordering}
+use Rattle.std.specs.declared.cmp.Ordering.TheVariants.{Less}
+use Rattle.road_graph.specs.Roads.{Roads}
+use Rattle.road_graph.specs.Walks.{IsDist}
+use Rattle.stop_schedule.specs.declared.request.Request.{Request}
+use Rattle.stop_schedule.specs.declared.stop.Insertion.{Insertion}
+use Rattle.stop_schedule.specs.Plans.{Plan}
+use Rattle.stop_schedule.specs.Rates.{Rates}
+use Rattle.stop_schedule.specs.Fronts.{front_of}
+use Rattle.stop_schedule.specs.Lists.{changed_ends}
+use Rattle.stop_schedule.specs.Fleets.{Car, Cars}
+use Rattle.insertion_cost.specs.declared.offer.Offer.{Offer}
+use Rattle.insertion_cost.specs.Prices.{Price, priced}
+use Rattle.insertion_cost.specs.Distances.{AreDistances}
+
+-- the insertion into a schedule at a clock has this price over a graph: the changed legs and the direct way have a distance, and
+-- with these the insertion is feasible
+pub record HasPrice (g : Roads) (rates : Rates) (clock : ℕ) (p : Plan) (r : Request) (at : Insertion) (price : Price) : Type 0 where
+  pub direct : ℕ
+  pub lengths : List ℕ
+  pub direct_way : IsDist g r.pickup r.dropoff direct
+  pub changed_legs : AreDistances g (changed_ends p.stops (front_of p clock) r at) lengths
+  pub priced_so : priced rates p (front_of p clock) r at direct lengths ≡ Some price
+
+abbrev pub price_in : Offer → Price
+price_in o = record { cost = o.cost; leave = o.leave; arrive = o.arrive }
+
+-- the offer is a feasible insertion into the schedule of the vehicle that stands at its place
+pub record IsOffer (g : Roads) (fleet : Cars) (r : Request) (o : Offer) : Type 0 where
+  pub car : Car
+  pub stands : slice_get fleet.cars o.place ≡ Some car
+  pub numbered : car.no ≡ o.no
+  pub price : HasPrice g fleet.rates fleet.clock car.plan r o.at (price_in o)
+
+-- offers go by cost, then vehicle number, then the place of the pickup, then that of the dropoff
+abbrev pub offer_cmp : Offer → Offer → Ordering
+offer_cmp a b = ordering_then (nat_cmp a.cost b.cost) (ordering_then (nat_cmp a.no.0 b.no.0) (ordering_then (nat_cmp a.at.i b.at.i) (nat_cmp a.at.j b.at.j)))
+
+-- The best insertion: a feasible one, and no feasible one of any vehicle and any pair of places goes before it.
+pub record IsBest (g : Roads) (fleet : Cars) (r : Request) (o : Offer) : Type 0 where
+  pub feasible : IsOffer g fleet r o
+  pub least : (other : Offer) → IsOffer g fleet r other → offer_cmp other o ≡ Less → ⊥
+
+-- no insertion is feasible
+abbrev pub NoOffer : Roads → Cars → Request → Type 0
+NoOffer g fleet r = (o : Offer) → IsOffer g fleet r o → ⊥
+
+-- the best insertion into the schedule of the vehicle at one place alone
+pub record IsBestOf (g : Roads) (fleet : Cars) (r : Request) (place : ℕ) (o : Offer) : Type 0 where
+  pub feasible : IsOffer g fleet r o
+  pub there : o.place ≡ place
+  pub least : (other : Offer) → IsOffer g fleet r other → other.place ≡ place → offer_cmp other o ≡ Less → ⊥
+
+abbrev pub NoOfferOf : Roads → Cars → Request → ℕ → Type 0
+NoOfferOf g fleet r place = (o : Offer) → IsOffer g fleet r o → o.place ≡ place → ⊥

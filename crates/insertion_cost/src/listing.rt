@@ -1,0 +1,82 @@
+ghost use Rattle.std.specs.Prelude.{◌≡◌, ℕ, ◌+◌, ◌<◌, ◌≤◌, ◌^◌, length, Some, slice_get, slice_index};
+ghost use Rattle.stop_schedule.specs.Bounds.{IsBounded};
+ghost use Rattle.stop_schedule.specs.Lists.{pickup_of, dropoff_of};
+ghost use Rattle.insertion_cost.specs.Changes.{no_promise, new_stops, new_lengths};
+ghost use Rattle.insertion_cost.specs.Spans.{AreSpans, lengths_of};
+
+use crate::spans::Spans;
+use stop_schedule::{Insertion, Request, Schedule, Stop, StopKind};
+
+/// Stop k of the new list, from 0, where the new stops have no limit.
+pub fn new_stop(schedule: &Schedule, request: &Request, at: Insertion, k: usize) -> Stop
+    requires order { at.i ≤ at.j }
+    requires within { at.j ≤ length schedule.now.stops }
+    requires stop { k < length schedule.now.stops + 2 }
+    ensures value { slice_get (new_stops schedule.now.stops request.now at) k ≡ Some result }
+{
+    let stops = schedule.stops();
+    if k < at.i {
+        stops[k]
+    } else if k == at.i {
+        pickup(request)
+    } else if k <= at.j {
+        stops[k - 1]
+    } else if k == at.j + 1 {
+        dropoff(request)
+    } else {
+        stops[k - 2]
+    }
+}
+
+fn pickup(request: &Request) -> Stop
+    ensures { result ≡ pickup_of request.now no_promise }
+{
+    Stop {
+        node: request.pickup,
+        kind: StopKind::Pickup,
+        no: request.no,
+        riders: request.riders,
+        ready: request.moment,
+        limit: 0,
+    }
+}
+
+fn dropoff(request: &Request) -> Stop
+    ensures { result ≡ dropoff_of request.now no_promise }
+{
+    Stop {
+        node: request.dropoff,
+        kind: StopKind::Dropoff,
+        no: request.no,
+        riders: request.riders,
+        ready: 0,
+        limit: 0,
+    }
+}
+
+/// The length of the leg to stop k of the new list, from 0.
+pub fn new_length(schedule: &Schedule, spans: &Spans, at: Insertion, k: usize) -> u64
+    requires order { at.i ≤ at.j }
+    requires within { at.j ≤ length schedule.now.stops }
+    requires spans { AreSpans (length schedule.now.stops) at spans.now }
+    requires bounded { IsBounded schedule.now }
+    requires stop { k < length schedule.now.stops + 2 }
+    ensures value { result ≡ slice_index (new_lengths schedule.now.legs at (lengths_of spans.now)) k }
+    ensures bound { result < 2 ^ 53 }
+{
+    if k < at.i {
+        schedule.leg(k).length()
+    } else if k == at.i {
+        spans.before_pickup
+    } else if k == at.i + 1 {
+        spans.after_pickup
+    } else if k <= at.j {
+        schedule.leg(k - 1).length()
+    } else if k == at.j + 1 {
+        spans.before_dropoff.unwrap()
+    } else if k == at.j + 2 {
+        spans.after_dropoff.unwrap()
+    } else {
+        schedule.leg(k - 2).length()
+    }
+}

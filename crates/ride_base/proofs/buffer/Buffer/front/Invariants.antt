@@ -1,0 +1,18 @@
+use Rattle.std.proofs.Common.{◌≡◌, ◌+◌, ◌-◌, length, position}
+use Rattle.std.specs.Prelude.{IsSome}
+use Rattle.ride_base.specs.Buffers.{with_front}
+use Rattle.ride_base.specs.Outside.{OnlyRead}
+use Rattle.ride_base.specs.Pieces.{is_line_end}
+use Rattle.ride_base.proofs.buffer.Buffer.front.Given as goal
+
+abbrev pub invariant-loop-at : goal.invariant-loop-at
+invariant-loop-at g l =
+    let S = g.S.Shelf in
+    record {
+      shelf : OnlyRead S.IsBegun S.held S.names S.IsSure S.faults l.fn.shelf l.shelf;
+      unread : with_front l.self (S.left l.shelf) ≡ with_front l.fn.self (S.left l.fn.shelf);
+      holds : IsSome (position is_line_end l.fn.self) → record { shelf : l.shelf ≡ l.fn.shelf; bytes : l.self ≡ l.fn.self };
+    }
+
+abbrev pub decreases-loop-at : goal.decreases-loop-at
+decreases-loop-at g l = l.most + 1 - length l.self

@@ -1,0 +1,58 @@
+use Rattle.std.specs.Prelude.{◌≡◌, ℕ, ◌+◌, ◌<◌, ◌++◌, List, [], ◌∷◌, length, Option, Some, None, Result, Ok, Err}
+use Rattle.ride_base.specs.Pieces.{Whole, TooLong, TooLarge, pieces, after_line}
+use Rattle.ride_base.specs.Reader.{Reader, Stop, Long as StopLong, Large as StopLarge}
+use Rattle.ride_base.specs.declared.buffer.ReadFault.{ReadFault}
+use Rattle.ride_base.specs.declared.buffer.ReadFault.TheVariants.{Failed, NoMemory as ReadNoMemory}
+use Rattle.ride_base.specs.declared.lines.Line.{Line}
+use Rattle.ride_base.specs.declared.lines.LineFault.{LineFault}
+use Rattle.ride_base.specs.declared.lines.LineFault.TheVariants.{Fault, Long, Large, NoMemory}
+
+-- what has not been given: what was read before, and what is left
+abbrev pub unread : Reader → Option (List ℕ) → Option (List ℕ)
+unread reader None = None
+unread reader (Some left) = Some (reader.pending ++ left)
+
+-- What an answer says of the text that was not given before, where it is told, and what then is not given. `room` and `room'` are
+-- the bytes that may be given before and after.
+abbrev pub Tells : ℕ → Option (List ℕ) → Result (Option Line) LineFault → ℕ → Option (List ℕ) → Type 0
+Tells room None answer room' after = after ≡ None
+Tells room (Some text) (Ok None) room' after = (text ≡ []) × (after ≡ Some [])
+Tells room (Some text) (Ok (Some line)) room' after =
+    (pieces room text ≡ Whole line.bytes ∷ pieces room' (after_line text)) × (after ≡ Some (after_line text))
+Tells room (Some text) (Err Fault) room' after = after ≡ Some text
+Tells room (Some text) (Err Long) room' after = (pieces room text ≡ TooLong ∷ []) × (after ≡ Some text)
+Tells room (Some text) (Err Large) room' after = (pieces room text ≡ TooLarge ∷ []) × (after ≡ Some text)
+Tells room (Some text) (Err NoMemory) room' after = after ≡ Some text
+
+-- what an answer says of the count of lines, and of the bytes that may still be given
+abbrev pub Counts : Reader → Result (Option Line) LineFault → Reader → Type 0
+Counts old (Ok None) new = (new.given ≡ old.given) × (new.room ≡ old.room)
+Counts old (Ok (Some line)) new = (line.number ≡ old.given + 1) × (new.given ≡ old.given + 1) × (new.room < old.room)
+Counts old (Err error) new = (new.given ≡ old.given) × (new.room ≡ old.room)
+
+-- whether a reader is stopped after an answer
+abbrev pub stop_after : Result (Option Line) LineFault → Option Stop
+stop_after (Ok line) = None
+stop_after (Err Fault) = None
+stop_after (Err Long) = Some StopLong
+stop_after (Err Large) = Some StopLarge
+stop_after (Err NoMemory) = None
+
+-- what a stopped reader answers
+abbrev pub fault_of : Stop → LineFault
+fault_of StopLong = Long
+fault_of StopLarge = Large
+
+-- how a reader tells that no bytes were read
+abbrev pub fault_of_read : ReadFault → LineFault
+fault_of_read Failed = Fault
+fault_of_read ReadNoMemory = NoMemory
+
+-- What an answer says of the rest of a text that may have so many bytes, where it is told. After an error a front of it is lost.
+abbrev pub TellsWhole : Option (List ℕ) → ℕ → Result (List ℕ) LineFault → Option (List ℕ) → Type 0
+TellsWhole None limit answer after = after ≡ None
+TellsWhole (Some text) limit (Ok bytes) after = (bytes ≡ text) × (after ≡ Some [])
+TellsWhole (Some text) limit (Err Large) None = ⊥
+TellsWhole (Some text) limit (Err Large) (Some after) = (limit < length text) × ((lost : List ℕ) × (text ≡ lost ++ after))
+TellsWhole (Some text) limit (Err error) None = ⊥
+TellsWhole (Some text) limit (Err error) (Some after) = (lost : List ℕ) × (text ≡ lost ++ after)

@@ -1,0 +1,271 @@
+ghost use Rattle.std.specs.Prelude.{◌≡◌, ℕ, ◌+◌, ◌<◌, ◌≤◌, ◌^◌, ◌==◌, List, length, filter, IfOk, IfNone, OnOk, MatchResult, slice_get, Some, None, not};
+ghost use Rattle.road_graph.specs.Roads.{IsNode, is_node, outs, ins, least_weight, lighter_of, is_within, most_roads};
+ghost use Rattle.road_graph.specs.Walks.{walk_length as length_as_walk};
+ghost use Rattle.road_graph.specs.Faults.{fault_in, first_outside, IsCause};
+ghost use Rattle.road_graph.specs.Graphs.{IsGraph, AreRoadsOf};
+ghost use Rattle.road_graph.specs.Listing.{least_in};
+
+use crate::road::{NodeNo, Road};
+use crate::rows::{Rows, Way};
+use crate::steps::Steps;
+use ride_base::{Items, NoMemory};
+use std::alloc::Global;
+use std::marker::Model;
+
+/// The most nodes that a graph may have.
+const MOST_NODES: u32 = 2_097_152;
+
+/// The most roads that a graph may have.
+const MOST_ROADS: usize = 8_388_608;
+
+/// Why a list of roads is no graph.
+#[derive(Debug, Clone, Copy, PartialEq, Eq)]
+pub enum BuildFault {
+    /// There are more than 2,097,152 nodes or more than 8,388,608 roads.
+    Large,
+    /// The road at this place of the list, counted from 0, is the first with an end that is no node.
+    Node { at: usize },
+    /// There is no memory for the graph.
+    NoMemory,
+}
+
+impl From<NoMemory> for BuildFault {
+    ghost use Rattle.std.specs.Prelude.{◌≡◌};
+    ghost use Rattle.road_graph.specs.declared.graph.BuildFault.TheVariants.{NoMemory};
+
+    ghost from_gives = { λ _ e. e ≡ NoMemory };
+
+    fn from(_: NoMemory) -> BuildFault {
+        BuildFault::NoMemory
+    }
+}
+
+/// Roads between the nodes 1 to a number.
+#[derive(Drop)]
+pub struct Graph {
+    nodes: u32,
+    /// The roads in the order in which they were given.
+    roads: Items<Road>,
+    outs: Rows,
+    ins: Rows,
+}
+
+impl Model for Graph {
+    ghost use Rattle.road_graph.specs.Roads.{Roads};
+    ghost use Rattle.road_graph.specs.Rows.{IsRowed};
+
+    ghost Value = { Roads };
+
+    ghost view = { λ g. record { nodes = g.nodes; roads = g.roads } };
+
+    ghost invariant = { λ g. IsRowed (record { nodes = g.nodes; roads = g.roads }) g.outs g.ins };
+}
+
+impl Graph {
+    /// Keeps the roads between the nodes 1 to `n`, in their order.
+    pub fn build(alloc: Global, n: u32, roads: &[Road]) -> Result<Graph, BuildFault>
+        ensures graph { IfOk result (λ g. g ≡ record { nodes = n; roads = roads.now }) }
+        ensures kept { IfOk result (λ g. IsGraph g) }
+        ensures fault { MatchResult result (λ g. fault_in n roads.now ≡ None) (λ e. IsCause (fault_in n roads.now) e) }
+    {
+        check(n, roads)?;
+        let outs = Rows::sorted(alloc, Way::Out, n, roads)?;
+        let ins = Rows::sorted(alloc, Way::In, n, roads)?;
+        let roads = Items::from_slice(alloc, roads)?;
+        Ok(Graph {
+            nodes: n,
+            roads,
+            outs,
+            ins,
+        })
+    }
+
+    /// How many nodes there are.
+    pub fn nodes(&self) -> u32
+        ensures nodes { result ≡ self.now.nodes }
+        ensures kept { IsGraph self.now }
+    {
+        self.nodes
+    }
+
+    /// How many roads there are.
+    pub fn roads(&self) -> u32
+        ensures roads { result ≡ length self.now.roads }
+        ensures kept { IsGraph self.now }
+    {
+        self.roads.as_slice().len() as u32
+    }
+
+    /// Whether it is one of the nodes.
+    pub(crate) fn has(&self, node: NodeNo) -> bool
+        ensures node { result ≡ is_node self.now.nodes node }
+        ensures kept { IsGraph self.now }
+    {
+        is_among(self.nodes, node)
+    }
+
+    /// How many roads lead out of a node.
+    pub fn out_count(&self, node: NodeNo) -> u32
+        requires { IsNode self.now node }
+        ensures count { result ≡ length (outs self.now node) }
+        ensures few { result ≤ most_roads }
+    {
+        self.outs_of(node).len() as u32
+    }
+
+    /// How many roads lead into a node.
+    pub fn in_count(&self, node: NodeNo) -> u32
+        requires { IsNode self.now node }
+        ensures count { result ≡ length (ins self.now node) }
+        ensures few { result ≤ most_roads }
+    {
+        self.ins_of(node).len() as u32
+    }
+
+    /// The other end and the weight of a road out of a node, by its place among them in the order of the list.
+    pub fn out_road<L>(&self, node: NodeNo, index: u32, steps: &mut Steps<L>) -> (NodeNo, u32)
+        requires node { IsNode self.now node }
+        requires index { index < length (outs self.now node) }
+        ensures road { slice_get (outs self.now node) index ≡ Some result }
+        ensures end { IsNode self.now result.0 }
+        ensures light { result.1 < 2 ^ 32 }
+        ensures steps { steps.new ≡ (steps.old.0 + 1, steps.old.1) }
+    {
+        steps.tick();
+        self.outs_of(node)[index as usize]
+    }
+
+    /// The other end and the weight of a road into a node, by its place among them in the order of the list.
+    pub fn in_road<L>(&self, node: NodeNo, index: u32, steps: &mut Steps<L>) -> (NodeNo, u32)
+        requires node { IsNode self.now node }
+        requires index { index < length (ins self.now node) }
+        ensures road { slice_get (ins self.now node) index ≡ Some result }
+        ensures end { IsNode self.now result.0 }
+        ensures light { result.1 < 2 ^ 32 }
+        ensures steps { steps.new ≡ (steps.old.0 + 1, steps.old.1) }
+    {
+        steps.tick();
+        self.ins_of(node)[index as usize]
+    }
+
+    /// The least weight of the roads from one node to another. It reads each road out of the first once.
+    pub fn joined<L>(&self, from: NodeNo, to: NodeNo, steps: &mut Steps<L>) -> Option<u32>
+        ensures weight { result ≡ least_weight self.now.roads from to }
+        ensures steps { steps.new ≡ (steps.old.0 + length (outs self.now from), steps.old.1) }
+    {
+        if !self.has(from) {
+            return None;
+        }
+        least_to(self.outs_of(from), to, steps)
+    }
+
+    /// The roads out of a node.
+    fn outs_of(&self, node: NodeNo) -> &[(NodeNo, u32)]
+        requires { IsNode self.now node }
+        ensures outs { result.now ≡ outs self.now node }
+        ensures few { length result.now ≤ most_roads }
+        ensures kept { IsGraph self.now }
+    {
+        self.outs.at(node)
+    }
+
+    /// The roads into a node.
+    fn ins_of(&self, node: NodeNo) -> &[(NodeNo, u32)]
+        requires { IsNode self.now node }
+        ensures ins { result.now ≡ ins self.now node }
+        ensures few { length result.now ≤ most_roads }
+        ensures kept { IsGraph self.now }
+    {
+        self.ins.at(node)
+    }
+
+    /// The length of a list of nodes as a walk, where it is one: each node but the last is joined to the next,
+    /// and the length is the sum of the least weights of their roads.
+    pub fn walk_length<L>(&self, nodes: &[NodeNo], steps: &mut Steps<L>) -> Option<u64>
+        requires { length nodes.now ≤ 4194304 }
+        ensures length { result ≡ length_as_walk self.now nodes.now }
+        ensures asks { steps.new.1 ≡ steps.old.1 }
+        ensures steps { steps.old.0 ≤ steps.new.0 }
+    {
+        let (first, rest) = nodes.split_first()?;
+        let mut here = *first;
+        let mut length = 0;
+        for next in rest {
+            length += u64::from(self.joined(here, *next, steps)?);
+            here = *next;
+        }
+        if self.has(here) { Some(length) } else { None }
+    }
+}
+
+/// Refuses numbers that are no graph's.
+fn check(nodes: u32, roads: &[Road]) -> Result<(), BuildFault>
+    ensures fault { MatchResult result (λ _. fault_in nodes roads.now ≡ None) (λ e. fault_in nodes roads.now ≡ Some e) }
+    ensures kept { OnOk result (IsGraph (record { nodes = nodes; roads = roads.now })) }
+{
+    if nodes > MOST_NODES || roads.len() > MOST_ROADS {
+        return Err(BuildFault::Large);
+    }
+    match outside(nodes, roads) {
+        Some(at) => Err(BuildFault::Node { at }),
+        None => Ok(()),
+    }
+}
+
+/// Where the first road stands with an end that is none of so many nodes.
+fn outside(nodes: u32, roads: &[Road]) -> Option<usize>
+    ensures first { result ≡ first_outside nodes roads.now }
+    ensures within { IfNone result (AreRoadsOf (record { nodes = nodes; roads = roads.now })) }
+{
+    for (at, road) in roads.iter().enumerate() {
+        if leaves(nodes, *road) {
+            return Some(at);
+        }
+    }
+    None
+}
+
+/// Whether it is one of so many nodes.
+fn is_among(nodes: u32, node: NodeNo) -> bool
+    ensures { result ≡ is_node nodes node }
+{
+    1 <= node.0 && node.0 <= nodes
+}
+
+/// Whether an end of the road is none of so many nodes.
+fn leaves(nodes: u32, road: Road) -> bool
+    ensures leaves { result ≡ not (is_within nodes road) }
+    ensures light { road.weight < 2 ^ 32 }
+{
+    let Road {
+        from,
+        to,
+        weight: _,
+    } = road;
+    !(is_among(nodes, from) && is_among(nodes, to))
+}
+
+/// The least weight in a row of roads that lead to a node.
+fn least_to<L>(row: &[(NodeNo, u32)], to: NodeNo, steps: &mut Steps<L>) -> Option<u32>
+    ensures weight { result ≡ least_in row.now to }
+    ensures steps { steps.new ≡ (steps.old.0 + length row.now, steps.old.1) }
+{
+    let mut least = None;
+    for (end, weight) in row {
+        steps.tick();
+        if *end == to {
+            least = lighter(least, *weight);
+        }
+    }
+    least
+}
+
+/// The lesser of two weights of which the first may be absent.
+fn lighter(least: Option<u32>, weight: u32) -> Option<u32>
+    ensures { result ≡ lighter_of least (Some weight) }
+{
+    match least {
+        Some(least) => Some(least.min(weight)),
+        None => Some(weight),
+    }
+}

@@ -1,0 +1,120 @@
+ghost use Rattle.std.specs.Prelude.{◌≡◌, ℕ, ◌+◌, ◌-◌, ◌<◌, ◌≤◌, List, [], length, IfOk, MatchOption, slice_index, Some, None};
+ghost use Rattle.road_graph.specs.Paths.{Path, length_of, IsPath};
+ghost use Rattle.road_graph.specs.Walks.{walk_length, IsMeasured};
+ghost use Rattle.road_graph.specs.Measured.{AreOffsets};
+
+use crate::graph::Graph;
+use crate::road::NodeNo;
+use crate::steps::Steps;
+use ride_base::{Items, NoMemory};
+use std::alloc::Global;
+use std::marker::Model;
+
+/// A walk, and how far each of its nodes is from the first, in the graph's weight units.
+#[derive(Debug, PartialEq, Eq, Drop)]
+pub struct Walk {
+    nodes: Items<NodeNo>,
+    offsets: Items<u64>,
+}
+
+impl Model for Walk {
+    ghost use Rattle.road_graph.specs.Paths.{Path, IsPath};
+
+    ghost Value = { Path };
+
+    ghost view = { λ w. record { nodes = w.nodes; offsets = w.offsets } };
+
+    ghost inverse = { λ p. record { nodes = p.nodes; offsets = p.offsets } };
+
+    ghost invariant = { λ w. IsPath (record { nodes = w.nodes; offsets = w.offsets }) };
+}
+
+impl Walk {
+    /// The nodes as a walk of the graph; none where they are no walk of it.
+    pub fn made<L>(
+        alloc: Global,
+        graph: &Graph,
+        nodes: &[NodeNo],
+        steps: &mut Steps<L>,
+    ) -> Result<Option<Walk>, NoMemory>
+        requires { length nodes.now ≤ 4194304 }
+        ensures walk { IfOk result (λ made. MatchOption made (walk_length graph.now nodes.now ≡ None) (λ w. (w.nodes ≡ nodes.now) × IsMeasured graph.now w)) }
+        ensures asks { steps.new.1 ≡ steps.old.1 }
+        ensures steps { steps.old.0 ≤ steps.new.0 }
+    {
+        let Some(offsets) = offsets_of(alloc, graph, nodes, steps)? else {
+            return Ok(None);
+        };
+        let nodes = Items::from_slice(alloc, nodes)?;
+        Ok(Some(Walk { nodes, offsets }))
+    }
+
+    /// The nodes in their order, at least one.
+    pub fn nodes(&self) -> &[NodeNo]
+        ensures nodes { result.now ≡ self.now.nodes }
+        ensures path { IsPath self.now }
+    {
+        self.nodes.as_slice()
+    }
+
+    /// How far the node at a place is from the first.
+    pub fn offset(&self, k: usize) -> u64
+        requires { k < length self.now.nodes }
+        ensures offset { result ≡ slice_index self.now.offsets k }
+        ensures path { IsPath self.now }
+    {
+        self.offsets.as_slice()[k]
+    }
+
+    /// How far the last node is from the first.
+    pub fn length(&self) -> u64
+        ensures length { result ≡ length_of self.now }
+        ensures path { IsPath self.now }
+    {
+        let offsets = self.offsets.as_slice();
+        offsets[offsets.len() - 1]
+    }
+
+    /// An equal walk.
+    pub fn share(&self, alloc: Global) -> Result<Walk, NoMemory>
+        ensures { IfOk result (λ w. w ≡ self.now) }
+    {
+        Ok(Walk {
+            nodes: Items::from_slice(alloc, self.nodes.as_slice())?,
+            offsets: Items::from_slice(alloc, self.offsets.as_slice())?,
+        })
+    }
+}
+
+/// How far each node is from the first, where the nodes are a walk.
+fn offsets_of<L>(
+    alloc: Global,
+    graph: &Graph,
+    nodes: &[NodeNo],
+    steps: &mut Steps<L>,
+) -> Result<Option<Items<u64>>, NoMemory>
+    requires { length nodes.now ≤ 4194304 }
+    ensures offsets { IfOk result (λ made. MatchOption made (walk_length graph.now nodes.now ≡ None) (λ offsets. AreOffsets graph.now nodes.now offsets)) }
+    ensures asks { steps.new.1 ≡ steps.old.1 }
+    ensures steps { steps.old.0 ≤ steps.new.0 }
+{
+    let Some((first, rest)) = nodes.split_first() else {
+        return Ok(None);
+    };
+    if !graph.has(*first) {
+        return Ok(None);
+    }
+    let mut offsets = Items::new(alloc);
+    offsets.push(0)?;
+    let mut here = *first;
+    let mut length = 0;
+    for next in rest {
+        let Some(weight) = graph.joined(here, *next, steps) else {
+            return Ok(None);
+        };
+        length += u64::from(weight);
+        offsets.push(length)?;
+        here = *next;
+    }
+    Ok(Some(offsets))
+}

@@ -1,0 +1,4 @@
+pub mod Advance
+pub mod Samples
+pub use Rattle.stop_schedule.specs.Plans
+pub use Rattle.stop_schedule.specs.Times

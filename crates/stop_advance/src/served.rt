@@ -1,0 +1,18 @@
+use ride_base::RequestNo;
+use road_graph::NodeNo;
+use stop_schedule::StopKind;
+
+/// A stop that was reached, with its planned times.
+#[derive(Clone, Copy, Debug, PartialEq, Eq)]
+pub struct Served {
+    /// Whether riders got on or off.
+    pub kind: StopKind,
+    /// The request that it served.
+    pub no: RequestNo,
+    /// Where it was.
+    pub node: NodeNo,
+    /// When it was reached.
+    pub arr: u64,
+    /// When it is left.
+    pub dep: u64,
+}

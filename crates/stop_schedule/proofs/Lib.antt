@@ -1,0 +1,5 @@
+pub mod NewLists
+pub mod Moments
+pub mod Starts
+pub mod Riders
+pub mod Limits

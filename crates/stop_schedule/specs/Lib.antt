@@ -1,0 +1,13 @@
+pub mod Rates
+pub mod Plans
+pub mod Times
+pub mod Fronts
+pub mod Lists
+pub mod Keeping
+pub mod Bounds
+pub mod Fleets
+pub mod Samples
+pub mod Held
+pub use Rattle.road_graph.specs.Roads
+pub use Rattle.road_graph.specs.Paths
+pub use Rattle.road_graph.specs.Walks

@@ -1,0 +1,68 @@
+use Rattle.std.specs.Prelude.{ℕ, ◌+◌, ◌-◌, ◌==◌, cond, nat_lt, List, [], ◌∷◌, ◌++◌, take, drop, map, Option, Some, None, slice_get, length}
+use Rattle.road_graph.specs.declared.road.NodeNo.{NodeNo}
+use Rattle.road_graph.specs.Paths.{Path, length_of}
+use Rattle.stop_schedule.specs.declared.request.Request.{Request}
+use Rattle.stop_schedule.specs.declared.stop.Front.{Front}
+use Rattle.stop_schedule.specs.declared.stop.Insertion.{Insertion}
+use Rattle.stop_schedule.specs.declared.stop.Promise.{Promise}
+use Rattle.stop_schedule.specs.declared.stop.Stop.{Stop}
+use Rattle.stop_schedule.specs.declared.stop.StopKind.TheVariants.{Pickup, Dropoff}
+use Rattle.stop_schedule.specs.Plans.{Plan, Course}
+
+abbrev pub pickup_of : Request → Promise → Stop
+pickup_of r promise = record { node = r.pickup; kind = Pickup; no = r.no; riders = r.riders; ready = r.moment; limit = promise.pickup }
+
+abbrev pub dropoff_of : Request → Promise → Stop
+dropoff_of r promise = record { node = r.dropoff; kind = Dropoff; no = r.no; riders = r.riders; ready = 0; limit = promise.arrival }
+
+-- the stops with a pickup after stop i and a dropoff after stop j, the pickup first where these are one
+abbrev pub with_both : List Stop → Insertion → Stop → Stop → List Stop
+with_both stops at p d = take at.i stops ++ p ∷ take (at.j - at.i) (drop at.i stops) ++ d ∷ drop at.j stops
+
+-- The legs with the changed ones in their places. Leg i gives way to the legs into and out of the pickup, and leg j, where there
+-- is one, to the legs into and out of the dropoff; where i is j the leg out of the pickup leads to the dropoff.
+abbrev pub with_legs : {X : Type 0} → List X → Insertion → List X → List X
+with_legs legs at changed = cond (at.i == at.j)
+    (take at.i legs ++ changed ++ drop (at.i + 1) legs)
+    (take at.i legs ++ take 2 changed ++ take (at.j - at.i - 1) (drop (at.i + 1) legs) ++ drop 2 changed ++ drop (at.j + 1) legs)
+
+-- where a vehicle turns to a new stop after its place: from its front
+abbrev pub start_of : {X : Type 0} → Insertion → X → X → X
+start_of at front place = cond (at.i == 0) front place
+
+-- The new schedule: both stops with the promise's limits, and the given walks as the changed legs. Where the pickup comes first,
+-- the vehicle starts from its front.
+abbrev pub inserted_in : Plan → Front → Request → Insertion → Promise → List Path → Plan
+inserted_in p front r at promise walks = record {
+  seats = p.seats;
+  until = p.until;
+  place = start_of at front.node p.place;
+  departure = start_of at front.time p.departure;
+  stops = with_both p.stops at (pickup_of r promise) (dropoff_of r promise);
+  legs = with_legs p.legs at walks;
+}
+
+-- the course of the new schedule where the changed legs have these lengths; its times don't hang on the limits
+abbrev pub new_course : Plan → Front → Request → Insertion → List ℕ → Course
+new_course p front r at lengths = record {
+  departure = start_of at front.time p.departure;
+  stops = with_both p.stops at (pickup_of r (record { pickup = 0; arrival = 0 })) (dropoff_of r (record { pickup = 0; arrival = 0 }));
+  lengths = with_legs (map length_of p.legs) at lengths;
+}
+
+abbrev pub node_or : NodeNo → Option Stop → NodeNo
+node_or place None = place
+node_or place (Some s) = s.node
+
+-- the node of stop k, counted from 1, and of the front for 0
+abbrev pub node_at : Front → List Stop → ℕ → NodeNo
+node_at front stops k = cond (k == 0) front.node (node_or front.node (slice_get stops (k - 1)))
+
+-- From where to where the changed legs lead, in their order: into the pickup; out of it; into the dropoff, where that isn't the
+-- leg out of the pickup; and out of the dropoff, where a stop follows.
+abbrev pub changed_ends : List Stop → Front → Request → Insertion → List (NodeNo × NodeNo)
+changed_ends stops front r at =
+    (node_at front stops at.i, r.pickup) ∷ cond (at.i == at.j)
+    ((r.pickup, r.dropoff) ∷ [])
+    ((r.pickup, node_at front stops (at.i + 1)) ∷ (node_at front stops at.j, r.dropoff) ∷ [])
+    ++ cond (nat_lt at.j (length stops)) ((r.dropoff, node_at front stops (at.j + 1)) ∷ []) []

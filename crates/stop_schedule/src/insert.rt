@@ -1,0 +1,105 @@
+ghost use Rattle.std.specs.Prelude.{◌≡◌, ◌≤◌, ◌++◌, length, IfOk, OnOk};
+ghost use Rattle.stop_schedule.specs.Lists.{pickup_of, dropoff_of, with_both, with_legs};
+
+use crate::request::Request;
+use crate::stop::{Insertion, Promise, Stop, StopKind};
+use ride_base::{Items, NoMemory};
+use road_graph::Walk;
+use std::alloc::Global;
+
+/// The stop at which the riders of a request get on.
+pub fn pickup_stop(request: &Request, promise: &Promise) -> Stop
+    ensures { result ≡ pickup_of request.now promise.now }
+{
+    Stop {
+        node: request.pickup,
+        kind: StopKind::Pickup,
+        no: request.no,
+        riders: request.riders,
+        ready: request.moment,
+        limit: promise.pickup,
+    }
+}
+
+/// The stop at which they get off.
+pub fn dropoff_stop(request: &Request, promise: &Promise) -> Stop
+    ensures { result ≡ dropoff_of request.now promise.now }
+{
+    Stop {
+        node: request.dropoff,
+        kind: StopKind::Dropoff,
+        no: request.no,
+        riders: request.riders,
+        ready: 0,
+        limit: promise.arrival,
+    }
+}
+
+/// The stops with a pickup after stop i and a dropoff after stop j.
+pub fn stops_with(
+    alloc: Global,
+    stops: &[Stop],
+    at: Insertion,
+    pickup: Stop,
+    dropoff: Stop,
+) -> Result<Items<Stop>, NoMemory>
+    requires order { at.i ≤ at.j }
+    requires within { at.j ≤ length stops.now }
+    requires few { length stops.now ≤ 64 }
+    ensures { IfOk result (λ all. all ≡ with_both stops.now at pickup dropoff) }
+{
+    let mut all = Vec::with_capacity(alloc, stops.len() + 2)?;
+    all.extend_from_slice(&stops[..at.i])?;
+    all.push(pickup)?;
+    all.extend_from_slice(&stops[at.i..at.j])?;
+    all.push(dropoff)?;
+    all.extend_from_slice(&stops[at.j..])?;
+    Ok(Items::from_vec(all))
+}
+
+/// Puts equal walks at the end.
+fn add_shares(alloc: Global, all: &mut Vec<Walk>, walks: &[Walk]) -> Result<(), NoMemory>
+    ensures { OnOk result (all.new.items ≡ all.old.items ++ walks.now) }
+{
+    for walk in walks {
+        all.push(walk.share(alloc)?)?;
+    }
+    Ok(())
+}
+
+/// Equal walks.
+pub fn shares(alloc: Global, walks: &[Walk]) -> Result<Items<Walk>, NoMemory>
+    ensures { IfOk result (λ all. all ≡ walks.now) }
+{
+    let mut all = Vec::with_capacity(alloc, walks.len())?;
+    add_shares(alloc, &mut all, walks)?;
+    Ok(Items::from_vec(all))
+}
+
+/// The legs with the changed ones in their places.
+pub fn legs_with(
+    alloc: Global,
+    legs: &[Walk],
+    at: Insertion,
+    changed: &[Walk],
+) -> Result<Items<Walk>, NoMemory>
+    requires order { at.i ≤ at.j }
+    requires within { at.j ≤ length legs.now }
+    requires few { length legs.now ≤ 64 }
+    requires some { 2 ≤ length changed.now }
+    ensures { IfOk result (λ all. all ≡ with_legs legs.now at changed.now) }
+{
+    let mut all = Vec::with_capacity(alloc, legs.len() + 2)?;
+    add_shares(alloc, &mut all, &legs[..at.i])?;
+    if at.i == at.j {
+        add_shares(alloc, &mut all, changed)?;
+    } else {
+        add_shares(alloc, &mut all, &changed[..2])?;
+        add_shares(alloc, &mut all, &legs[at.i + 1..at.j])?;
+        add_shares(alloc, &mut all, &changed[2..])?;
+    }
+    if at.j < legs.len() {
+        add_shares(alloc, &mut all, &legs[at.j + 1..])?;
+    }
+    Ok(Items::from_vec(all))
+}
