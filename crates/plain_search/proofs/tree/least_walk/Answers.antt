@@ -1,0 +1,27 @@
+use Rattle.std.proofs.Common.{◌∙◌, subst, sym}
+use Rattle.plain_search.specs.declared.reached.Way.{Way}
+use Rattle.plain_search.specs.Searching.{faced, IsSearchOf, AllOfferedIn}
+use Rattle.plain_search.proofs.Finishing.{reached_so_far, walk_or_none}
+use Rattle.plain_search.proofs.tree.least_walk.Goals as goal
+
+pub settle_until-requires-clause-search : goal.settle_until-requires-clause-search
+settle_until-requires-clause-search g c = rw c.in_ok-search.ensures.asked.0 c.in_ok-search.ensures.begun
+
+pub settle_until-requires-clause-offered : goal.settle_until-requires-clause-offered
+settle_until-requires-clause-offered g c = rw c.in_ok-search.ensures.asked.0 c.in_ok-search.ensures.offered
+
+pub walk_back-requires : goal.walk_back-requires
+walk_back-requires g c =
+    let s = c.settle_until.new.self in
+    let e = c.in_ok-settle_until.ensures in
+    reached_so_far c.args.graph.now s c.of.result c.of.ensures (subst (λ (w : Way). IsSearchOf (faced w c.args.graph.now) s) (sym e.same.way) e.search)
+
+pub returns-clause-walk : goal.returns-clause-walk
+returns-clause-walk g c =
+    let s = c.settle_until.new.self in
+    let e = c.in_ok-settle_until.ensures in
+    let asked = c.in_ok-search.ensures.asked in
+    walk_or_none c.args.graph.now s c.args.from c.args.to c.of.result c.of.ensures
+    (subst (λ (w : Way). IsSearchOf (faced w c.args.graph.now) s) (sym e.same.way) e.search)
+    (subst (λ (w : Way). AllOfferedIn (faced w c.args.graph.now) s) (sym e.same.way) e.offered)
+    (e.same.way ∙ asked.0) (e.same.start ∙ asked.1) (e.same.radius ∙ asked.2) e.ends _ c.walk_back-2.ensures.walk

@@ -1,0 +1,63 @@
+ghost use Rattle.std.specs.Prelude.{◌≡◌, ℕ, ◌≤◌, [], ◌∷◌, All, IfOk, OnErr, MatchOption, IsPermutation, length};
+
+use ride_base::NoMemory;
+use road_graph::NodeNo;
+use std::alloc::Global;
+use std::cmp::Reverse;
+use std::collections::BinaryHeap;
+use std::marker::Model;
+
+/// A node that a search has found but not settled, and a road to it.
+#[derive(Clone, Copy, Debug)]
+#[derive_where(PartialEq, Eq, PartialOrd, Ord)]
+pub(crate) struct Candidate {
+    pub(crate) distance: u64,
+    pub(crate) node: NodeNo,
+    #[derive_where(skip(EqHashOrd))]
+    pub(crate) parent: Option<NodeNo>,
+}
+
+/// Candidates of which the nearest is taken first.
+#[derive(Drop)]
+pub(crate) struct Nearest {
+    heap: BinaryHeap<Reverse<Candidate>>,
+}
+
+impl Model for Nearest {
+    ghost use Rattle.std.specs.Prelude.{List, map};
+    ghost use Rattle.std.specs.BinaryHeap.{IsHeap, heap_items};
+    ghost use Rattle.plain_search.specs.declared.nearest.Candidate.{Candidate};
+    ghost use Rattle.plain_search.specs.Order.{held_of};
+
+    ghost Value = { List Candidate };
+
+    ghost view = { λ q. held_of (heap_items q.heap) };
+
+    ghost invariant = { λ q. IsHeap ⟦<Reverse<Candidate> as Ord>⟧.cmp (heap_items q.heap) };
+}
+
+impl Nearest {
+    pub(crate) fn new(alloc: Global) -> Nearest
+        ensures { result ≡ [] }
+    {
+        Nearest {
+            heap: BinaryHeap::new(alloc),
+        }
+    }
+
+    pub(crate) fn push(&mut self, candidate: Candidate) -> Result<(), NoMemory>
+        ensures { IfOk result (λ _. IsPermutation (candidate ∷ self.old) self.new) }
+    {
+        self.heap.push(Reverse(candidate))?;
+        Ok(())
+    }
+
+    /// Takes a candidate that none is nearer than.
+    pub(crate) fn pop(&mut self) -> Option<Candidate>
+        ensures none { MatchOption result (self.old ≡ []) (λ taken. IsPermutation self.old (taken ∷ self.new)) }
+        ensures nearest { MatchOption result (self.new ≡ []) (λ taken. All (λ other. taken.distance ≤ other.distance) self.new) }
+    {
+        let Reverse(nearest) = self.heap.pop()?;
+        Some(nearest)
+    }
+}

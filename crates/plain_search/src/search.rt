@@ -1,0 +1,226 @@
+ghost use Rattle.std.specs.Prelude.{◌≡◌, ℕ, ◌+◌, ◌-◌, ◌^◌, ◌<◌, ◌≤◌, ◌↔◌, ◌⊎◌, List, [], ◌∷◌, ◌++◌, length, IfOk, IfSome, IsTrue, MatchOption, MatchBool, Some, slice_get, slice_set};
+ghost use Rattle.road_graph.specs.Roads.{Roads, IsNode, ins};
+ghost use Rattle.plain_search.specs.declared.reached.Reached.{Reached as ReachedNode};
+ghost use Rattle.plain_search.specs.declared.reached.Mark.TheVariants.{Seen, Settled};
+ghost use Rattle.plain_search.specs.Reaching.{IsInside};
+ghost use Rattle.plain_search.specs.Searching.{faced, reached_by, IsSearch, IsSearchOf, IsSettled, AllOffered, AllOfferedIn, AreOffered, Offers, IsKnownBy, IsNewBy, IsSameSearch, HasOneMore};
+
+use crate::nearest::{Candidate, Nearest};
+use crate::reached::{Mark, Reached, Way};
+use ride_base::{Items, NoMemory};
+use road_graph::{Graph, NodeNo, Steps};
+use std::alloc::Global;
+
+/// A search that settles nodes in rising order of distance (Dijkstra 1959).
+#[derive(Drop)]
+pub(crate) struct Search {
+    pub(crate) way: Way,
+    pub(crate) start: NodeNo,
+    pub(crate) radius: Option<u64>,
+    pub(crate) reached: Items<Reached>,
+    pub(crate) marks: Vec<Mark>,
+    pub(crate) waiting: Nearest,
+}
+
+impl Search {
+    /// A search in which the start waits.
+    pub(crate) fn new(
+        alloc: Global,
+        graph: &Graph,
+        way: Way,
+        start: NodeNo,
+        radius: Option<u64>,
+    ) -> Result<Search, NoMemory>
+        requires { IsNode graph.now start }
+        ensures asked { IfOk result (λ s. (s.way ≡ way) × (s.start ≡ start) × (s.radius ≡ radius)) }
+        ensures empty { IfOk result (λ s. s.reached ≡ []) }
+        ensures begun { IfOk result (IsSearchOf (faced way graph.now)) }
+        ensures offered { IfOk result (AllOfferedIn (faced way graph.now)) }
+    {
+        let mut marks = vec![in alloc; Mark::Unseen; graph.nodes() as usize + 1]?;
+        marks[start.0 as usize] = Mark::Seen(0);
+        let mut waiting = Nearest::new(alloc);
+        waiting.push(Candidate {
+            distance: 0,
+            node: start,
+            parent: None,
+        })?;
+        Ok(Search {
+            way,
+            start,
+            radius,
+            reached: Items::new(alloc),
+            marks,
+            waiting,
+        })
+    }
+
+    /// Settles the nearest node that waits. False where none is left.
+    pub(crate) fn settle_nearest<L>(
+        &mut self,
+        graph: &Graph,
+        steps: &mut Steps<L>,
+    ) -> Result<bool, NoMemory>
+        requires search { IsSearchOf (faced self.old.way graph.now) self.old }
+        requires offered { AllOfferedIn (faced self.old.way graph.now) self.old }
+        ensures same { IfOk result (λ _. IsSameSearch self.old self.new) }
+        ensures search { IfOk result (λ _. IsSearchOf (faced self.old.way graph.now) self.new) }
+        ensures offered { IfOk result (λ _. AllOfferedIn (faced self.old.way graph.now) self.new) }
+        ensures more { IfOk result (λ found. MatchBool found (HasOneMore self.old self.new) ((self.new.waiting ≡ []) × (self.new.reached ≡ self.old.reached))) }
+        ensures steps { steps.old.0 ≤ steps.new.0 }
+        ensures asks { steps.new.1 ≡ steps.old.1 }
+    {
+        while let Some(nearest) = self.waiting.pop() {
+            if !is_settled(self.marks.as_slice(), nearest.node) {
+                self.settle(nearest)?;
+                self.offer_roads(graph, nearest, steps)?;
+                return Ok(true);
+            }
+        }
+        Ok(false)
+    }
+
+    /// Settles nodes until a node is among them or none is left.
+    pub(crate) fn settle_until<L>(
+        &mut self,
+        graph: &Graph,
+        node: NodeNo,
+        steps: &mut Steps<L>,
+    ) -> Result<(), NoMemory>
+        requires node { IsNode graph.now node }
+        requires search { IsSearchOf (faced self.old.way graph.now) self.old }
+        requires offered { AllOfferedIn (faced self.old.way graph.now) self.old }
+        ensures same { IfOk result (λ _. IsSameSearch self.old self.new) }
+        ensures search { IfOk result (λ _. IsSearchOf (faced self.old.way graph.now) self.new) }
+        ensures offered { IfOk result (λ _. AllOfferedIn (faced self.old.way graph.now) self.new) }
+        ensures ends { IfOk result (λ _. IsSettled self.new.marks.items node ⊎ (self.new.waiting ≡ [])) }
+        ensures steps { steps.old.0 ≤ steps.new.0 }
+        ensures asks { steps.new.1 ≡ steps.old.1 }
+    {
+        'settling: while self.settle_nearest(graph, steps)? {
+            if is_settled(self.marks.as_slice(), node) {
+                return Ok(());
+            }
+        }
+        Ok(())
+    }
+
+    /// Puts a candidate at the end of the list.
+    fn settle(&mut self, nearest: Candidate) -> Result<(), NoMemory>
+        requires marks { nearest.node.0 < length self.old.marks.items }
+        requires few { length self.old.reached < 2 ^ 32 }
+        ensures same { IfOk result (λ _. IsSameSearch self.old self.new) }
+        ensures reached { IfOk result (λ _. self.new.reached ≡ self.old.reached ++ reached_by nearest ∷ []) }
+        ensures marks { IfOk result (λ _. self.new.marks.items ≡ slice_set self.old.marks.items nearest.node.0 (Settled (length self.old.reached))) }
+        ensures waiting { IfOk result (λ _. self.new.waiting ≡ self.old.waiting) }
+    {
+        let place = self.reached.len() as u32;
+        self.reached.push(Reached {
+            node: nearest.node,
+            distance: nearest.distance,
+            parent: nearest.parent,
+        })?;
+        self.marks[nearest.node.0 as usize] = Mark::Settled(place);
+        Ok(())
+    }
+
+    /// Offers the other ends of the roads of the node that was settled last.
+    fn offer_roads<L>(
+        &mut self,
+        graph: &Graph,
+        last: Candidate,
+        steps: &mut Steps<L>,
+    ) -> Result<(), NoMemory>
+        requires search { IsSearchOf (faced self.old.way graph.now) self.old }
+        requires last { slice_get self.old.reached (length self.old.reached - 1) ≡ Some (reached_by last) }
+        requires offered { AreOffered (faced self.old.way graph.now) self.old.radius self.old.reached self.old.marks.items self.old.waiting 0 }
+        ensures same { IfOk result (λ _. IsSameSearch self.old self.new) }
+        ensures reached { IfOk result (λ _. self.new.reached ≡ self.old.reached) }
+        ensures search { IfOk result (λ _. IsSearchOf (faced self.old.way graph.now) self.new) }
+        ensures offered { IfOk result (λ _. AllOfferedIn (faced self.old.way graph.now) self.new) }
+        ensures steps { steps.old.0 ≤ steps.new.0 }
+        ensures asks { steps.new.1 ≡ steps.old.1 }
+    {
+        for index in 0..road_count(graph, self.way, last.node) {
+            let (node, weight) = road_at(graph, self.way, last.node, index, steps);
+            self.offer(Candidate {
+                distance: last.distance + u64::from(weight),
+                node,
+                parent: Some(last.node),
+            })?;
+        }
+        Ok(())
+    }
+
+    /// Lets a candidate wait, unless its node is settled, is beyond the radius, or waits at no more.
+    fn offer(&mut self, candidate: Candidate) -> Result<(), NoMemory>
+        requires { candidate.node.0 < length self.old.marks.items }
+        ensures same { IfOk result (λ _. IsSameSearch self.old self.new) }
+        ensures reached { IfOk result (λ _. self.new.reached ≡ self.old.reached) }
+        ensures offers { IfOk result (λ _. Offers self.old.radius self.old.marks.items self.new.marks.items self.old.waiting self.new.waiting candidate) }
+    {
+        if is_known(
+            self.radius,
+            self.marks[candidate.node.0 as usize],
+            candidate.distance,
+        ) {
+            return Ok(());
+        }
+        self.waiting.push(candidate)?;
+        self.marks[candidate.node.0 as usize] = Mark::Seen(candidate.distance);
+        Ok(())
+    }
+}
+
+/// Whether a node with this mark needn't be looked for at this distance.
+fn is_known(radius: Option<u64>, mark: Mark, distance: u64) -> bool
+    ensures { MatchBool result (IsKnownBy radius mark distance) (IsNewBy radius mark distance) }
+{
+    if radius.is_some_and(|radius| radius < distance) {
+        return true;
+    }
+    match mark {
+        Mark::Unseen => false,
+        Mark::Seen(waiting) => waiting <= distance,
+        Mark::Settled(_) => true,
+    }
+}
+
+fn is_settled(marks: &[Mark], node: NodeNo) -> bool
+    requires { node.0 < length marks.now }
+    ensures { IsTrue result ↔ IsSettled marks.now node }
+{
+    matches!(marks[node.0 as usize], Mark::Settled(_))
+}
+
+/// How many roads a search follows from a node.
+fn road_count(graph: &Graph, way: Way, node: NodeNo) -> u32
+    requires { IsNode graph.now node }
+    ensures { result ≡ length (ins (faced way graph.now) node) }
+{
+    match way {
+        Way::From => graph.out_count(node),
+        Way::To => graph.in_count(node),
+    }
+}
+
+/// The other end and the weight of one of them.
+fn road_at<L>(
+    graph: &Graph,
+    way: Way,
+    node: NodeNo,
+    index: u32,
+    steps: &mut Steps<L>,
+) -> (NodeNo, u32)
+    requires node { IsNode graph.now node }
+    requires index { index < length (ins (faced way graph.now) node) }
+    ensures road { slice_get (ins (faced way graph.now) node) index ≡ Some result }
+    ensures end { IsNode graph.now result.0 }
+    ensures light { result.1 < 2 ^ 32 }
+    ensures steps { steps.new ≡ (steps.old.0 + 1, steps.old.1) }
+{
+    match way {
+        Way::From => graph.out_road(node, index, steps),
+        Way::To => graph.in_road(node, index, steps),
+    }
+}
