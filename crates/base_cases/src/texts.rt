@@ -25,9 +25,13 @@ mod tests {
         Ok(shelf)
     }
 
-    fn line(alloc: Global, number: u64, bytes: &[u8]) -> Result<Option<Line>, Fail> {
+    fn line(alloc: Global, number: u64, bytes: &[u8], ended: bool) -> Result<Option<Line>, Fail> {
         let bytes = Items::from_slice(alloc, bytes)?;
-        Ok(Some(Line { number, bytes }))
+        Ok(Some(Line {
+            number,
+            bytes,
+            ended,
+        }))
     }
 
     // So many bytes, and then others.
@@ -43,9 +47,9 @@ mod tests {
     {
         let mut shelf = begun(alloc, TEXT, most)?;
         let mut lines = Lines::new(alloc, 5);
-        assert_eq!(rt; lines.next(alloc, &mut shelf)?, line(alloc, 1, b"a")?);
-        assert_eq!(rt; lines.next(alloc, &mut shelf)?, line(alloc, 2, b"")?);
-        assert_eq!(rt; lines.next(alloc, &mut shelf)?, line(alloc, 3, b"b")?);
+        assert_eq!(rt; lines.next(alloc, &mut shelf)?, line(alloc, 1, b"a", true)?);
+        assert_eq!(rt; lines.next(alloc, &mut shelf)?, line(alloc, 2, b"", true)?);
+        assert_eq!(rt; lines.next(alloc, &mut shelf)?, line(alloc, 3, b"b", false)?);
         assert_eq!(rt; lines.next(alloc, &mut shelf)?, None);
         Ok(())
     }
@@ -62,11 +66,11 @@ mod tests {
         let mut lines = Lines::new(rt.alloc(), 4);
         assert_eq!(rt;
             lines.next(rt.alloc(), &mut shelf)?,
-            line(rt.alloc(), 1, b"a")?
+            line(rt.alloc(), 1, b"a", true)?
         );
         assert_eq!(rt;
             lines.next(rt.alloc(), &mut shelf)?,
-            line(rt.alloc(), 2, b"")?
+            line(rt.alloc(), 2, b"", true)?
         );
         assert_eq!(rt; lines.next(rt.alloc(), &mut shelf), Err(LineFault::Large));
         assert_eq!(rt; lines.next(rt.alloc(), &mut shelf), Err(LineFault::Large));
@@ -79,7 +83,14 @@ mod tests {
         let mut shelf = begun(rt.alloc(), text.as_slice(), 1000)?;
         let given = Lines::new(rt.alloc(), 100_000).next(rt.alloc(), &mut shelf)?;
         let bytes = padded(rt.alloc(), 65_535, b"")?;
-        assert_eq!(rt; given, Some(Line { number: 1, bytes }));
+        assert_eq!(rt;
+            given,
+            Some(Line {
+                number: 1,
+                bytes,
+                ended: true,
+            })
+        );
         Ok(())
     }
 
@@ -126,7 +137,7 @@ mod tests {
         assert_eq!(rt; lines.next(rt.alloc(), &mut shelf), Err(LineFault::Fault));
         assert_eq!(rt;
             lines.next(rt.alloc(), &mut shelf)?,
-            line(rt.alloc(), 1, b"a")?
+            line(rt.alloc(), 1, b"a", true)?
         );
         shelf.fail(rt.alloc(), "text", 0)?;
         assert_eq!(rt; shelf.begin("text"), Err(BeginFault::Failed));
@@ -157,7 +168,7 @@ mod tests {
         assert_eq!(rt; text.as_slice(), b"from a file\n".as_slice());
         shelf.begin("read_back.txt")?;
         let given = Lines::new(rt.alloc(), 100).next(rt.alloc(), &mut shelf)?;
-        assert_eq!(rt; given, line(rt.alloc(), 1, b"from a file")?);
+        assert_eq!(rt; given, line(rt.alloc(), 1, b"from a file", true)?);
         assert_eq!(rt; shelf.begin("no_such_file.txt"), Err(BeginFault::Failed));
         fs::remove_file(&rt, "read_back.txt")?;
         Ok(())

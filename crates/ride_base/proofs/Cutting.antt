@@ -1,5 +1,5 @@
 use Rattle.std.proofs.Common.{◌≡◌, ℕ, suc, zero, ◌+◌, ◌-◌, ◌<◌, ◌≤◌, min, Bool, true, false, cond, List, [], ◌∷◌, ◌++◌, take, drop, length, Option, Some, None, Ok, Err, refl, sym, ap, ◌∙◌, get_or, position, arith, length-take, length-append, append_assoc, append-nil}
-use Rattle.std.specs.Prelude.{nat_lt, nat_le, ◌&&◌, ◌==◌, IfSome}
+use Rattle.std.specs.Prelude.{nat_lt, nat_le, ◌&&◌, ◌==◌, IfSome, is_some}
 use Rattle.std.specs.List.{slice_split, position_or_len, All, onto_first}
 use Rattle.std.specs.Str.Lines.{strip_carriage_return}
 use Rattle.std.proofs.lemmas.Bool.{eqb-true}
@@ -9,7 +9,7 @@ use Rattle.std.proofs.lemmas.List.{drop_more, take-append-drop, drop-append-le}
 use Rattle.std.proofs.lemmas.List.Splits.{slice_split_at, slice_split_none, length-slice_split, slice_split-cons_no}
 use Rattle.std.proofs.lemmas.List.Sums.{passes_at_first}
 use Rattle.ride_base.specs.Buffers.{with_front, stop_of, stop_past, IsAtEnd}
-use Rattle.ride_base.specs.Pieces.{Piece, Whole, TooLong, TooLarge, pieces, pieces_of_parts, judged, after_line, is_line_end, longest_line}
+use Rattle.ride_base.specs.Pieces.{Piece, Whole, TooLong, TooLarge, pieces, pieces_of_parts, judged, after_line, is_ended, is_line_end, longest_line}
 use Rattle.ride_base.specs.Reader.{Stop, Long, Large}
 use Rattle.ride_base.specs.Reading.{Tells, fault_of}
 use Rattle.ride_base.specs.Stops.{shown_stop}
@@ -67,11 +67,28 @@ after_line_at p left at h =
     let place : position_or_len is_line_end (p ++ left) + 1 ≡ at + 1 = let k = first_kept is_line_end p left (omega arith) in omega arith in
     ap (λ (n : ℕ). drop n (p ++ left)) place ∙ drop-append-le (at + 1) p left (omega arith)
 
+has_end : (text : List ℕ) (b : Bool) → nat_lt (position_or_len is_line_end text) (length text) ≡ b → is_ended text ≡ b
+has_end text true h = ap (λ (t : Bool). is_some (cond t (Some (position_or_len is_line_end text)) None)) h
+has_end text false h = ap (λ (t : Bool). is_some (cond t (Some (position_or_len is_line_end text)) None)) h
+
+-- a line end that was read ends the first line
+ended_at : (p left : List ℕ) (at : ℕ) → position is_line_end p ≡ Some at → is_ended (p ++ left) ≡ true
+ended_at p left at h =
+    let f = found_is is_line_end p at h in
+    let f0 = f.0 in
+    let f1 = f.1 in
+    let within : position_or_len is_line_end (p ++ left) < length (p ++ left) = let k = first_kept is_line_end p left (omega arith) in omega (arith, length-append p left) in
+    has_end (p ++ left) true (is_less (position_or_len is_line_end (p ++ left)) (length (p ++ left)) within)
+
+-- where none was read at the end of the text, none ends it
+unended_last : (p : List ℕ) → position is_line_end p ≡ None → is_ended p ≡ false
+unended_last p h = ap is_some h
+
 pub gives_ended : (p : List ℕ) (room : ℕ) (pending' : List ℕ) (room' : ℕ) (left : Option (List ℕ)) (at : ℕ) (line : Line) → position is_line_end p ≡ Some at → stop_of at (at + 1) room ≡ None
-    → line.bytes ≡ strip_carriage_return (take at p) → pending' ≡ drop (at + 1) p → room' ≡ room - (at + 1)
+    → line.bytes ≡ strip_carriage_return (take at p) → line.ended ≡ true → pending' ≡ drop (at + 1) p → room' ≡ room - (at + 1)
     → Tells room (with_front p left) (Ok (Some line)) room' (with_front pending' left)
-gives_ended p room pending' room' None at line found goes bytes rest falls = refl
-gives_ended p room pending' room' (Some left) at line found goes bytes rest falls =
+gives_ended p room pending' room' None at line found goes bytes ended rest falls = refl
+gives_ended p room pending' room' (Some left) at line found goes bytes ended rest falls =
     let after : after_line (p ++ left) ≡ drop (at + 1) p ++ left = after_line_at p left at found in (
       pieces_at room p left at found
           ∙ ap (λ (s : Option Stop). after_stop s (strip_carriage_return (take at p)) (pieces (room - (at + 1)) (drop (at + 1) p ++ left))) goes
@@ -79,6 +96,7 @@ gives_ended p room pending' room' (Some left) at line found goes bytes rest fall
           ∙ ap (λ (n : ℕ). Whole line.bytes ∷ pieces n (drop (at + 1) p ++ left)) (sym falls)
           ∙ ap (λ (x : List ℕ). Whole line.bytes ∷ pieces room' x) (sym after),
       ap Some (ap (λ (x : List ℕ). x ++ left) rest ∙ sym after),
+      ended ∙ sym (ended_at p left at found),
     )
 
 stops_ended : (p : List ℕ) (room : ℕ) (room' : ℕ) (left : Option (List ℕ)) (at : ℕ) (stop : Stop) → position is_line_end p ≡ Some at → stop_of at (at + 1) room ≡ Some stop
@@ -112,16 +130,17 @@ plain : (n room : ℕ) (p : List ℕ) → n ≡ length p → stop_of n (n + 0) r
 plain n room p h = let e : n + 0 ≡ length p = omega arith in ap (λ (m : ℕ). stop_of n m room) e ∙ ap (λ (m : ℕ). stop_of m (length p) room) h
 
 pub gives_last : (p : List ℕ) (room n : ℕ) (pending' : List ℕ) (room' : ℕ) (left : Option (List ℕ)) (line : Line) → IsAtEnd left → n ≡ length p → (n ≡ 0 → ⊥) → position is_line_end p ≡ None
-    → stop_of n (n + 0) room ≡ None → line.bytes ≡ p → pending' ≡ []
+    → stop_of n (n + 0) room ≡ None → line.bytes ≡ p → line.ended ≡ false → pending' ≡ []
     → Tells room (with_front p left) (Ok (Some line)) room' (with_front pending' left)
-gives_last p room n pending' room' None line end size some none goes bytes rest = refl
-gives_last p room n pending' room' (Some left) line end size some none goes bytes rest =
+gives_last p room n pending' room' None line end size some none goes bytes ended rest = refl
+gives_last p room n pending' room' (Some left) line end size some none goes bytes ended rest =
     let text : p ++ left ≡ p = ap (λ (x : List ℕ). p ++ x) end ∙ append-nil p in
     let after : after_line (p ++ left) ≡ [] = ap after_line text ∙ after_last_line p none in (
       ap (pieces room) text ∙ pieces_last room p (grind arith) none
           ∙ ap (λ (s : Option Stop). after_stop s p []) (sym (plain n room p size) ∙ goes) ∙ ap (λ (x : List ℕ). Whole x ∷ []) (sym bytes)
           ∙ ap (λ (x : List ℕ). Whole line.bytes ∷ pieces room' x) (sym after),
       ap Some (ap (λ (x : List ℕ). x ++ left) rest ∙ end ∙ sym after),
+      ended ∙ sym (ap is_ended text ∙ unended_last p none),
     )
 
 stops_last : (p : List ℕ) (room : ℕ) (room' : ℕ) (left : Option (List ℕ)) (stop : Stop) → IsAtEnd left → 0 < length p → position is_line_end p ≡ None

@@ -1,4 +1,4 @@
-use Rattle.std.specs.Prelude.{◌≡◌, ℕ, ◌+◌, ◌-◌, ◌==◌, nat_lt, nat_le, ◌&&◌, Bool, cond, List, [], ◌∷◌, length, refl}
+use Rattle.std.specs.Prelude.{◌≡◌, ℕ, ◌+◌, ◌-◌, ◌==◌, nat_lt, nat_le, ◌&&◌, Bool, true, false, cond, List, [], ◌∷◌, length, position, is_some, refl}
 use Rattle.std.specs.List.{slice_split, after_first}
 use Rattle.std.specs.Str.Lines.{strip_carriage_return}
 
@@ -38,6 +38,10 @@ pieces room text = pieces_of_parts room (slice_split is_line_end text)
 abbrev pub after_line : List ℕ → List ℕ
 after_line text = after_first is_line_end text
 
+-- whether the first line of a text is ended by a line end
+abbrev pub is_ended : List ℕ → Bool
+is_ended text = is_some (position is_line_end text)
+
 -- the lines of a text that are ended by a line end
 abbrev pub ended_in_parts : List (List ℕ) → List (List ℕ)
 ended_in_parts [] = []
@@ -68,6 +72,12 @@ past = refl
 -- the end itself is past the room
 end_past : pieces 2 (97 ∷ 98 ∷ 10 ∷ []) ≡ TooLarge ∷ []
 end_past = refl
+
+first_ended : is_ended (97 ∷ 10 ∷ 98 ∷ []) ≡ true
+first_ended = refl
+
+last_unended : is_ended (98 ∷ 13 ∷ []) ≡ false
+last_unended = refl
 
 ended_only : ended_lines (97 ∷ 13 ∷ 10 ∷ 98 ∷ []) ≡ (97 ∷ []) ∷ []
 ended_only = refl

@@ -1,5 +1,5 @@
 use Rattle.std.specs.Prelude.{◌≡◌, ℕ, ◌+◌, ◌<◌, ◌++◌, List, [], ◌∷◌, length, Option, Some, None, Result, Ok, Err}
-use Rattle.ride_base.specs.Pieces.{Whole, TooLong, TooLarge, pieces, after_line}
+use Rattle.ride_base.specs.Pieces.{Whole, TooLong, TooLarge, pieces, after_line, is_ended}
 use Rattle.ride_base.specs.Reader.{Reader, Stop, Long as StopLong, Large as StopLarge}
 use Rattle.ride_base.specs.declared.buffer.ReadFault.{ReadFault}
 use Rattle.ride_base.specs.declared.buffer.ReadFault.TheVariants.{Failed, NoMemory as ReadNoMemory}
@@ -18,7 +18,7 @@ abbrev pub Tells : ℕ → Option (List ℕ) → Result (Option Line) LineFault 
 Tells room None answer room' after = after ≡ None
 Tells room (Some text) (Ok None) room' after = (text ≡ []) × (after ≡ Some [])
 Tells room (Some text) (Ok (Some line)) room' after =
-    (pieces room text ≡ Whole line.bytes ∷ pieces room' (after_line text)) × (after ≡ Some (after_line text))
+    (pieces room text ≡ Whole line.bytes ∷ pieces room' (after_line text)) × (after ≡ Some (after_line text)) × (line.ended ≡ is_ended text)
 Tells room (Some text) (Err Fault) room' after = after ≡ Some text
 Tells room (Some text) (Err Long) room' after = (pieces room text ≡ TooLong ∷ []) × (after ≡ Some text)
 Tells room (Some text) (Err Large) room' after = (pieces room text ≡ TooLarge ∷ []) × (after ≡ Some text)

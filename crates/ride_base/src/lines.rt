@@ -16,11 +16,13 @@ use thiserror::Error;
 /// The most bytes that a line may have before its line end, a CR among them.
 const LONGEST_LINE: u64 = 65536;
 
-/// A line without its end, and where it stands: lines count from 1.
+/// A line without its end, where it stands (lines count from 1), and whether a line end stood behind it. Only the last line of a text
+/// may have none.
 #[derive(Debug, PartialEq, Eq, Drop)]
 pub struct Line {
     pub number: u64,
     pub bytes: Items<u8>,
+    pub ended: bool,
 }
 
 /// Why there is no further line, or no text.
@@ -166,6 +168,7 @@ impl Lines {
         Ok(Some(Line {
             number: self.given,
             bytes,
+            ended: true,
         }))
     }
 
@@ -192,6 +195,7 @@ impl Lines {
         Ok(Some(Line {
             number: self.given,
             bytes,
+            ended: false,
         }))
     }
 
