@@ -1,7 +1,9 @@
 pub mod Taking
 pub mod Spelling
 pub mod Searching
+pub mod Fielding
 pub mod Filling
+pub mod Capping
 pub mod Cutting
 pub mod Storing
 pub mod Shelves

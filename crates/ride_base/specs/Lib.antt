@@ -3,6 +3,8 @@ pub mod Pieces
 pub mod Reader
 pub mod Reading
 pub mod Digits
+pub mod Fields
 pub mod Stored
 pub mod Buffers
 pub mod Stops
+pub mod Told

@@ -3,6 +3,7 @@
 
 mod buffer;
 mod digits;
+mod fields;
 mod host;
 mod items;
 mod lines;
@@ -12,6 +13,7 @@ mod outside;
 mod texts;
 
 pub use digits::number;
+pub use fields::{capped_number, next_field};
 pub use host::{HostShelf, HostSink};
 pub use items::{Items, NoMemory};
 pub use lines::{Line, LineFault, Lines};
