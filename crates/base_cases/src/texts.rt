@@ -49,7 +49,10 @@ mod tests {
         let mut lines = Lines::new(alloc, 5);
         assert_eq!(rt; lines.next(alloc, &mut shelf)?, line(alloc, 1, b"a", true)?);
         assert_eq!(rt; lines.next(alloc, &mut shelf)?, line(alloc, 2, b"", true)?);
-        assert_eq!(rt; lines.next(alloc, &mut shelf)?, line(alloc, 3, b"b", false)?);
+        assert_eq!(rt;
+            lines.next(alloc, &mut shelf)?,
+            line(alloc, 3, b"b", false)?
+        );
         assert_eq!(rt; lines.next(alloc, &mut shelf)?, None);
         Ok(())
     }

@@ -1,0 +1,14 @@
+pub mod Offering
+pub mod Parting
+pub mod Planning
+pub mod Reaches
+pub mod Roads
+pub mod Running
+pub mod Spanning
+pub mod Standing
+pub mod Streaming
+pub mod Taking
+pub mod Trying
+pub mod Vehicles
+pub mod Walking
+pub mod Words

@@ -1,0 +1,74 @@
+use Rattle.std.proofs.Common.{◌≡◌, ℕ, ◌<◌, ◌≤◌, ◌^◌, ◌+◌, List, length, Some, sym, ap, ◌∙◌, subst, arith}
+use Rattle.std.specs.Prelude.{slice_get, slice_set}
+use Rattle.std.proofs.lemmas.Option.{slice_get_within}
+use Rattle.road_graph.specs.Paths.{Path}
+use Rattle.road_graph.specs.Roads.{Roads}
+use Rattle.road_graph.specs.Walks.{IsDist}
+use Rattle.stop_schedule.specs.declared.request.Request.{Request}
+use Rattle.stop_schedule.specs.declared.stop.Front.{Front}
+use Rattle.stop_schedule.specs.declared.stop.Promise.{Promise}
+use Rattle.stop_schedule.specs.declared.stop.Stop.{Stop}
+use Rattle.stop_schedule.specs.Bounds.{IsBounded}
+use Rattle.stop_schedule.specs.Fleets.{Car, Cars}
+use Rattle.stop_schedule.specs.Fronts.{front_of}
+use Rattle.stop_schedule.specs.Lists.{changed_ends, inserted_in}
+use Rattle.stop_schedule.specs.Plans.{Plan}
+use Rattle.stop_schedule.specs.Rates.{Rates}
+use Rattle.insertion_cost.specs.declared.offer.Offer.{Offer}
+use Rattle.insertion_cost.specs.Distances.{AreLeastWalks}
+use Rattle.insertion_cost.specs.Offers.{IsBest, IsOffer, price_in}
+use Rattle.insertion_cost.specs.Prices.{promise_of}
+use Rattle.dispatch_top.specs.Deciding.{IsPlanned, IsTakenOn}
+use Rattle.dispatch_top.proofs.Taking.{offer_times}
+
+-- the times of an offer are small enough for a promise
+pub offer_soon : (g : Roads) (fleet : Cars) (r : Request) (o : Offer) (car : Car) (p : Plan) → IsOffer g fleet r o → slice_get fleet.cars o.place ≡ Some car → p ≡ car.plan → IsBounded p → (o.leave < 2 ^ 60) × (o.arrive < 2 ^ 60)
+offer_soon g fleet r o car p f is same bounded =
+    let times = offer_times g fleet r o car f is (subst (λ (q : Plan). IsBounded q) same bounded) in
+    (small o.leave times.0, small o.arrive times.1)
+  where
+    small : (t : ℕ) → t ≤ 2 ^ 40 → t < 2 ^ 60
+    small t le = omega arith
+
+-- the schedule at hand is that of the vehicle, and its front that at the clock
+pub as_planned : (g : Roads) (fleet : Cars) (r : Request) (o : Offer) (walks : List Path) (planned : Plan) (direct : ℕ) (car : Car) (rates : Rates) (p : Plan) (stops : List Stop) (front : Front) (promise : Promise)
+    → slice_get fleet.cars o.place ≡ Some car → fleet.clock ≡ 0 → rates ≡ fleet.rates → p ≡ car.plan → stops ≡ p.stops → front ≡ front_of p 0 → promise ≡ promise_of rates r direct (price_in o)
+    → IsDist g r.pickup r.dropoff direct → AreLeastWalks g (changed_ends stops front r o.at) walks → planned ≡ inserted_in p front r o.at promise walks → IsPlanned g fleet r o walks planned
+as_planned g fleet r o walks planned direct car rates p stops front promise stands clock er ep es ef em way least is = record {
+  direct = direct;
+  car = car;
+  direct_way = way;
+  stands = stands;
+  least = subst (λ (xs : List Stop). AreLeastWalks g (changed_ends xs (front_of car.plan fleet.clock) r o.at) walks) stops_there (subst (λ (f : Front). AreLeastWalks g (changed_ends stops f r o.at) walks) front_there least);
+  is = is ∙ ap {B = Plan} (λ (q : Plan). inserted_in q front r o.at promise walks) ep
+      ∙ ap {B = Plan} (λ (f : Front). inserted_in car.plan f r o.at promise walks) front_there
+      ∙ ap {B = Plan} (λ (m : Promise). inserted_in car.plan (front_of car.plan fleet.clock) r o.at m walks) promised;
+}
+  where
+    stops_there : stops ≡ car.plan.stops
+    stops_there = es ∙ ap (λ (q : Plan). q.stops) ep
+
+    front_there : front ≡ front_of car.plan fleet.clock
+    front_there = ef ∙ ap {B = Front} (λ (k : ℕ). front_of p k) (sym clock) ∙ ap {B = Front} (λ (q : Plan). front_of q fleet.clock) ep
+
+    promised : promise ≡ promise_of fleet.rates r direct (price_in o)
+    promised = em ∙ ap {B = Promise} (λ (x : Rates). promise_of x r direct (price_in o)) er
+
+-- the vehicle of an offer that was planned is one of the fleet
+pub place_within : (g : Roads) (fleet : Cars) (r : Request) (o : Offer) (walks : List Path) (planned : Plan) → IsPlanned g fleet r o walks planned → o.place < length fleet.cars
+place_within g fleet r o walks planned p = slice_get_within fleet.cars o.place p.car p.stands
+
+-- the fleet in which its vehicle has the new schedule is that of the answer
+pub as_taken : (g : Roads) (old : Cars) (r : Request) (o : Offer) (walks : List Path) (planned : Plan) (new : Cars) → IsBest g old r o → IsPlanned g old r o walks planned
+    → ((car : Car) → slice_get old.cars o.place ≡ Some car → new ≡ record old { version = old.version + 1; cars = slice_set old.cars o.place (record car { plan = planned; stamp = old.version + 1 }) })
+    → IsTakenOn g old r (record { offer = o; walks = walks }) new
+as_taken g old r o walks planned new best p takes = record {
+  direct = p.direct;
+  car = p.car;
+  best = best;
+  direct_way = p.direct_way;
+  stands = p.stands;
+  walks = p.least;
+  leads_to = takes p.car p.stands
+      ∙ ap {B = Cars} (λ (q : Plan). record old { version = old.version + 1; cars = slice_set old.cars o.place (record p.car { plan = q; stamp = old.version + 1 }) }) p.is;
+}

@@ -1,0 +1,11 @@
+use Rattle.std.specs.Prelude.{ℕ}
+use Rattle.dispatch_top.specs.declared.status.Status.{Status}
+use Rattle.dispatch_top.specs.declared.status.Status.TheVariants.{Done, NotYet, ReadFault, WriteFault, NoMemory}
+
+-- the exit code of each status
+abbrev pub code_of : Status → ℕ
+code_of Done = 0
+code_of NotYet = 1
+code_of ReadFault = 6
+code_of WriteFault = 7
+code_of NoMemory = 8

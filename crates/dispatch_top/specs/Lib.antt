@@ -1,0 +1,12 @@
+pub mod Ahead
+pub mod Choosing
+pub mod Codes
+pub mod Deciding
+pub mod Endings
+pub mod Forms
+pub mod Opening
+pub mod Runs
+pub mod Samples
+pub mod Streams
+pub mod Told
+pub mod Ways

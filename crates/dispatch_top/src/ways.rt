@@ -1,0 +1,127 @@
+ghost use Rattle.std.specs.Prelude.{IfOk, MatchOption};
+ghost use Rattle.road_graph.specs.Roads.{Roads, IsNode};
+ghost use Rattle.road_graph.specs.Walks.{IsDist, IsLeastWalk, NoWalk};
+ghost use Rattle.plain_search.specs.Reaching.{IsReach};
+ghost use Rattle.stop_schedule.specs.declared.request.Request.{Request as RequestOf};
+
+use plain_search::{Reach, reach_from, reach_to};
+use ride_base::NoMemory;
+use road_graph::{Graph, NodeNo, Steps, Walk};
+use std::alloc::Global;
+use stop_schedule::Request;
+
+/// The distances from and to the two nodes of a request.
+#[derive(Drop)]
+pub(crate) struct Ways {
+    to_pickup: Reach,
+    from_pickup: Reach,
+    to_dropoff: Reach,
+    from_dropoff: Reach,
+}
+
+impl Ways {
+    ghost use Rattle.dispatch_top.specs.Ways.{AreWaysOf};
+
+    /// Searches the whole graph from and to both nodes.
+    pub(crate) fn search<L>(
+        alloc: Global,
+        graph: &Graph,
+        request: &Request,
+        steps: &mut Steps<L>,
+    ) -> Result<Ways, NoMemory>
+        requires pickup { IsNode graph.now request.now.pickup }
+        requires dropoff { IsNode graph.now request.now.dropoff }
+        ensures { IfOk result (AreWaysOf graph.now request.now) }
+    {
+        Ok(Ways {
+            to_pickup: reach_to(alloc, graph, request.pickup, None, steps)?,
+            from_pickup: reach_from(alloc, graph, request.pickup, None, steps)?,
+            to_dropoff: reach_to(alloc, graph, request.dropoff, None, steps)?,
+            from_dropoff: reach_from(alloc, graph, request.dropoff, None, steps)?,
+        })
+    }
+
+    /// The distance from a node to the pickup, where there is a walk.
+    pub(crate) fn to_pickup(&self, node: NodeNo) -> Option<u64>
+        ensures { (g : Roads) (r : RequestOf) → AreWaysOf g r self.now → MatchOption result (NoWalk g node r.pickup) (IsDist g node r.pickup) }
+    {
+        self.to_pickup.distance(node)
+    }
+
+    /// The distance from the pickup to a node, where there is a walk.
+    pub(crate) fn from_pickup(&self, node: NodeNo) -> Option<u64>
+        ensures { (g : Roads) (r : RequestOf) → AreWaysOf g r self.now → MatchOption result (NoWalk g r.pickup node) (IsDist g r.pickup node) }
+    {
+        self.from_pickup.distance(node)
+    }
+
+    /// The distance from a node to the dropoff, where there is a walk.
+    pub(crate) fn to_dropoff(&self, node: NodeNo) -> Option<u64>
+        ensures { (g : Roads) (r : RequestOf) → AreWaysOf g r self.now → MatchOption result (NoWalk g node r.dropoff) (IsDist g node r.dropoff) }
+    {
+        self.to_dropoff.distance(node)
+    }
+
+    /// The distance from the dropoff to a node, where there is a walk.
+    pub(crate) fn from_dropoff(&self, node: NodeNo) -> Option<u64>
+        ensures { (g : Roads) (r : RequestOf) → AreWaysOf g r self.now → MatchOption result (NoWalk g r.dropoff node) (IsDist g r.dropoff node) }
+    {
+        self.from_dropoff.distance(node)
+    }
+
+    /// A least walk from a node to the pickup. None where there is no walk.
+    pub(crate) fn walk_to_pickup<L>(
+        &self,
+        alloc: Global,
+        graph: &Graph,
+        node: NodeNo,
+        steps: &mut Steps<L>,
+    ) -> Result<Option<Walk>, NoMemory>
+        requires { IsReach graph.now self.now.to_pickup }
+        ensures { (r : RequestOf) → AreWaysOf graph.now r self.now → IfOk result (λ found. MatchOption found (NoWalk graph.now node r.pickup) (IsLeastWalk graph.now node r.pickup)) }
+    {
+        self.to_pickup.walk(alloc, graph, node, steps)
+    }
+
+    /// A least walk from the pickup to a node. None where there is no walk.
+    pub(crate) fn walk_from_pickup<L>(
+        &self,
+        alloc: Global,
+        graph: &Graph,
+        node: NodeNo,
+        steps: &mut Steps<L>,
+    ) -> Result<Option<Walk>, NoMemory>
+        requires { IsReach graph.now self.now.from_pickup }
+        ensures { (r : RequestOf) → AreWaysOf graph.now r self.now → IfOk result (λ found. MatchOption found (NoWalk graph.now r.pickup node) (IsLeastWalk graph.now r.pickup node)) }
+    {
+        self.from_pickup.walk(alloc, graph, node, steps)
+    }
+
+    /// A least walk from a node to the dropoff. None where there is no walk.
+    pub(crate) fn walk_to_dropoff<L>(
+        &self,
+        alloc: Global,
+        graph: &Graph,
+        node: NodeNo,
+        steps: &mut Steps<L>,
+    ) -> Result<Option<Walk>, NoMemory>
+        requires { IsReach graph.now self.now.to_dropoff }
+        ensures { (r : RequestOf) → AreWaysOf graph.now r self.now → IfOk result (λ found. MatchOption found (NoWalk graph.now node r.dropoff) (IsLeastWalk graph.now node r.dropoff)) }
+    {
+        self.to_dropoff.walk(alloc, graph, node, steps)
+    }
+
+    /// A least walk from the dropoff to a node. None where there is no walk.
+    pub(crate) fn walk_from_dropoff<L>(
+        &self,
+        alloc: Global,
+        graph: &Graph,
+        node: NodeNo,
+        steps: &mut Steps<L>,
+    ) -> Result<Option<Walk>, NoMemory>
+        requires { IsReach graph.now self.now.from_dropoff }
+        ensures { (r : RequestOf) → AreWaysOf graph.now r self.now → IfOk result (λ found. MatchOption found (NoWalk graph.now r.dropoff node) (IsLeastWalk graph.now r.dropoff node)) }
+    {
+        self.from_dropoff.walk(alloc, graph, node, steps)
+    }
+}

@@ -1,0 +1,7 @@
+// Tests of whole runs over memory: three texts on a shelf, the status, and the bytes that were taken.
+#![tactic(auto)]
+
+#[cfg(test)]
+mod rides;
+#[cfg(test)]
+mod runs;
