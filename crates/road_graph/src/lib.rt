@@ -4,6 +4,7 @@
 mod graph;
 mod road;
 mod rows;
+mod short;
 mod steps;
 mod walk;
 

@@ -5,16 +5,18 @@ ghost use Rattle.road_graph.specs.Measured.{AreOffsets};
 
 use crate::graph::Graph;
 use crate::road::NodeNo;
+use crate::short::Short;
 use crate::steps::Steps;
-use ride_base::{Items, NoMemory};
+use ride_base::NoMemory;
 use std::alloc::Global;
+use std::default::MadeWith;
 use std::marker::Model;
 
 /// A walk, and how far each of its nodes is from the first, in the graph's weight units.
 #[derive(Debug, PartialEq, Eq, Drop)]
 pub struct Walk {
-    nodes: Items<NodeNo>,
-    offsets: Items<u64>,
+    nodes: Short<NodeNo>,
+    offsets: Short<u64>,
 }
 
 impl Model for Walk {
@@ -45,7 +47,7 @@ impl Walk {
         let Some(offsets) = offsets_of(alloc, graph, nodes, steps)? else {
             return Ok(None);
         };
-        let nodes = Items::from_slice(alloc, nodes)?;
+        let nodes = Short::from_slice(alloc, nodes)?;
         Ok(Some(Walk { nodes, offsets }))
     }
 
@@ -80,9 +82,24 @@ impl Walk {
         ensures { IfOk result (λ w. w ≡ self.now) }
     {
         Ok(Walk {
-            nodes: Items::from_slice(alloc, self.nodes.as_slice())?,
-            offsets: Items::from_slice(alloc, self.offsets.as_slice())?,
+            nodes: Short::from_slice(alloc, self.nodes.as_slice())?,
+            offsets: Short::from_slice(alloc, self.offsets.as_slice())?,
         })
+    }
+}
+
+impl MadeWith<Global> for Walk {
+    ghost use Rattle.std.specs.Prelude.{◌≡◌, [], ◌∷◌};
+    ghost use Rattle.road_graph.specs.Roads.{node};
+
+    ghost is_made_with = { λ w. (w.nodes ≡ node 1 ∷ []) × (w.offsets ≡ 0 ∷ []) };
+
+    /// Node 1 alone, for a place that holds no walk yet. It takes no memory.
+    fn made_with(alloc: Global) -> Walk {
+        Walk {
+            nodes: Short::one(alloc, NodeNo::default()),
+            offsets: Short::one(alloc, 0),
+        }
     }
 }
 
@@ -92,7 +109,7 @@ fn offsets_of<L>(
     graph: &Graph,
     nodes: &[NodeNo],
     steps: &mut Steps<L>,
-) -> Result<Option<Items<u64>>, NoMemory>
+) -> Result<Option<Short<u64>>, NoMemory>
     requires { length nodes.now ≤ 4194304 }
     ensures offsets { IfOk result (λ made. MatchOption made (walk_length graph.now nodes.now ≡ None) (λ offsets. AreOffsets graph.now nodes.now offsets)) }
     ensures asks { steps.new.1 ≡ steps.old.1 }
@@ -104,7 +121,7 @@ fn offsets_of<L>(
     if !graph.has(*first) {
         return Ok(None);
     }
-    let mut offsets = Items::new(alloc);
+    let mut offsets = Short::new(alloc);
     offsets.push(0)?;
     let mut here = *first;
     let mut length = 0;

@@ -7,7 +7,6 @@ pub mod Keeping
 pub mod Bounds
 pub mod Fleets
 pub mod Samples
-pub mod Held
 pub use Rattle.road_graph.specs.Roads
 pub use Rattle.road_graph.specs.Paths
 pub use Rattle.road_graph.specs.Walks

@@ -1,45 +1,36 @@
 ghost use Rattle.std.specs.Prelude.{◌≡◌, ◌<◌, ◌≤◌, List, [], ◌∷◌, ◌++◌, length, IfOk};
-ghost use Rattle.stop_schedule.specs.Held.{held_walks};
 
 use ride_base::NoMemory;
 use road_graph::Walk;
+use smallvec::SmallVec;
 use std::alloc::Global;
 use std::marker::Model;
-use std::mem;
 
 /// The walks of the legs that an insertion changes, in rising order of leg: at most four, which lie in the value itself.
 #[derive(Debug, Drop)]
 pub struct NewWalks {
-    held: Held,
-}
-
-/// As many walks as there are, side by side.
-#[derive(Debug, Drop)]
-enum Held {
-    Zero,
-    One([Walk; 1]),
-    Two([Walk; 2]),
-    Three([Walk; 3]),
-    Four([Walk; 4]),
+    held: SmallVec<Walk, 4>,
 }
 
 impl Model for NewWalks {
-    ghost use Rattle.std.specs.Prelude.{List};
+    ghost use Rattle.std.specs.Prelude.{◌≡◌, ◌≤◌, List, length};
     ghost use Rattle.road_graph.specs.Paths.{Path};
 
     ghost Value = { List Path };
 
-    ghost use Rattle.stop_schedule.specs.Held.{held_walks};
+    ghost view = { λ w. w.held.items };
 
-    ghost view = { λ w. held_walks w.held };
+    ghost invariant = { λ w. (w.held.capacity ≡ 4) × (length w.held.items ≤ 4) };
 }
 
 impl NewWalks {
     /// No walks yet. It takes no memory.
-    pub fn new(_alloc: Global) -> NewWalks
+    pub fn new(alloc: Global) -> NewWalks
         ensures { result ≡ [] }
     {
-        NewWalks { held: Held::Zero }
+        NewWalks {
+            held: SmallVec::new(alloc),
+        }
     }
 
     /// Puts a walk at the end. It takes no memory.
@@ -47,8 +38,7 @@ impl NewWalks {
         requires { length self.old < 4 }
         ensures { self.new ≡ self.old ++ walk ∷ [] }
     {
-        let held = mem::replace(&mut self.held, Held::Zero);
-        self.held = held.with(walk);
+        self.held.push_reserved(walk);
     }
 
     /// The walks in their order.
@@ -56,13 +46,7 @@ impl NewWalks {
         ensures value { result.now ≡ self.now }
         ensures few { length self.now ≤ 4 }
     {
-        match &self.held {
-            Held::Zero => &[],
-            Held::One(walks) => walks,
-            Held::Two(walks) => walks,
-            Held::Three(walks) => walks,
-            Held::Four(walks) => walks,
-        }
+        self.held.as_slice()
     }
 
     /// Equal walks.
@@ -98,41 +82,4 @@ impl Eq for NewWalks {
     ghost use Rattle.road_graph.specs.contracts.walk.WalkEq.TheImpl.Laws.{laws-law};
 
     ghost laws = { lists_equiv laws-law };
-}
-
-impl Held {
-    /// These walks and one more, where there are fewer than four.
-    fn with(self, walk: Walk) -> Held
-        requires { length (held_walks self) < 4 }
-        ensures { held_walks result ≡ held_walks self ++ walk ∷ [] }
-    {
-        match self {
-            Held::Zero => Held::One([walk]),
-            Held::One(walks) => Held::Two(two(walks, walk)),
-            Held::Two(walks) => Held::Three(three(walks, walk)),
-            Held::Three(walks) => Held::Four(four(walks, walk)),
-            Held::Four(walks) => Held::Four(walks),
-        }
-    }
-}
-
-fn two(walks: [Walk; 1], walk: Walk) -> [Walk; 2]
-    ensures { result ≡ walks ++ walk ∷ [] }
-{
-    let [a] = walks;
-    [a, walk]
-}
-
-fn three(walks: [Walk; 2], walk: Walk) -> [Walk; 3]
-    ensures { result ≡ walks ++ walk ∷ [] }
-{
-    let [a, b] = walks;
-    [a, b, walk]
-}
-
-fn four(walks: [Walk; 3], walk: Walk) -> [Walk; 4]
-    ensures { result ≡ walks ++ walk ∷ [] }
-{
-    let [a, b, c] = walks;
-    [a, b, c, walk]
 }
