@@ -1,0 +1,17 @@
+use Rattle.std.proofs.Common.{◌≡◌, None}
+use Rattle.ride_base.specs.Outside.{OnlyRead}
+use Rattle.ride_base.specs.Told.{ahead}
+use Rattle.dimacs_reader.specs.Reading.{graph_ahead}
+use Rattle.dimacs_reader.proofs.graphs.read_problem.Given as goal
+
+abbrev pub invariant-loop-line : goal.invariant-loop-line
+invariant-loop-line g l =
+    let S = g.S.Shelf in
+    record {
+      shelf : OnlyRead S.IsBegun S.held S.names S.IsSure S.faults l.fn.shelf l.shelf;
+      same : graph_ahead l.lines.given (ahead l.lines (S.left l.shelf)) ≡ graph_ahead l.fn.lines.given (ahead l.fn.lines (S.left l.fn.shelf));
+      unstopped : l.lines.stopped ≡ None;
+    }
+
+abbrev pub decreases-loop-line : goal.decreases-loop-line
+decreases-loop-line g l = l.lines.room

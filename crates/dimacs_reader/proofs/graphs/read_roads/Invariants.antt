@@ -1,0 +1,22 @@
+use Rattle.std.proofs.Common.{◌≡◌, ◌≤◌, length, true, None}
+use Rattle.std.specs.List.{list_all}
+use Rattle.ride_base.specs.Outside.{OnlyRead}
+use Rattle.ride_base.specs.Told.{ahead}
+use Rattle.road_graph.specs.Roads.{is_within}
+use Rattle.dimacs_reader.specs.Reading.{roads_ahead}
+use Rattle.dimacs_reader.proofs.Roading.{roads_said}
+use Rattle.dimacs_reader.proofs.graphs.read_roads.Given as goal
+
+abbrev pub invariant-loop-roads : goal.invariant-loop-roads
+invariant-loop-roads g l =
+    let S = g.S.Shelf in
+    record {
+      shelf : OnlyRead S.IsBegun S.held S.names S.IsSure S.faults l.fn.shelf l.shelf;
+      same : roads_said l.said.nodes l.said.roads l.roads l.lines.given (ahead l.lines (S.left l.shelf)) ≡ roads_ahead l.said.nodes l.said.roads 0 l.fn.lines.given (ahead l.fn.lines (S.left l.fn.shelf));
+      few : length l.roads ≤ l.said.roads;
+      within : list_all (is_within l.said.nodes) l.roads ≡ true;
+      unstopped : l.lines.stopped ≡ None;
+    }
+
+abbrev pub decreases-loop-roads : goal.decreases-loop-roads
+decreases-loop-roads g l = l.lines.room

@@ -1,0 +1,205 @@
+ghost use Rattle.std.specs.Prelude.{◌≡◌, ℕ, ◌<◌, ◌≤◌, ◌++◌, true, false, IfOk, IfErr, IfSome, IfNone, IsOk, Err, None, List, Result, Ok, OnOk, OnErr};
+ghost use Rattle.std.specs.Option.{option_map, option_to_list};
+ghost use Rattle.ride_base.specs.Outside.{Rose, OnlyRead};
+ghost use Rattle.ride_base.specs.Told.{WhereTold, ahead};
+ghost use Rattle.road_graph.specs.Faults.{fault_in};
+ghost use Rattle.road_graph.specs.Graphs.{IsGraph};
+ghost use Rattle.road_graph.specs.Roads.{Roads, is_node, is_within, node as node_of, most_nodes, most_roads};
+ghost use Rattle.dimacs_reader.specs.Forms.{graph_line as graph_line_in};
+ghost use Rattle.dimacs_reader.specs.Graphs.{graph_of, over_nodes, arc_line, road_and, first_line};
+ghost use Rattle.dimacs_reader.specs.Reading.{graph_ahead, roads_ahead, graph_with, roads_with, road_with};
+ghost use Rattle.dimacs_reader.specs.Refusals.{IsRefusal};
+
+use crate::faults::GraphFault;
+use crate::forms::{GraphLine, graph_line};
+use crate::lines::CountedLines;
+use ride_base::{Items, Line, NoMemory, Shelf};
+use road_graph::{BuildFault, Graph, NodeNo, Road};
+use std::alloc::Global;
+
+/// The most nodes that a graph may have.
+pub const MOST_NODES: u64 = 2_097_152;
+
+/// The most roads that a graph may have.
+const MOST_ROADS: u64 = 8_388_608;
+
+/// The largest weight of a road.
+const LARGEST_WEIGHT: u64 = 4_294_967_295;
+
+/// How many nodes and roads a problem line says.
+#[derive(Clone, Copy, Debug)]
+struct Said {
+    nodes: u32,
+    roads: u32,
+}
+
+/// Reads the graph of the text that is begun: `p sp N M`, and then M lines `a U V W`. Comments and blank lines may stand anywhere.
+/// The first line that is bad is told. The roads keep the order of the text.
+pub fn read_graph<S: Shelf>(alloc: Global, shelf: &mut S) -> Result<Graph, GraphFault>
+    requires { S.IsBegun shelf.old }
+    ensures graph { IfOk result (λ g. WhereTold (S.left shelf.old) (λ text. graph_of text ≡ Ok g)) }
+    ensures refused { IfErr result (λ e. IsRefusal e → WhereTold (S.left shelf.old) (λ text. graph_of text ≡ Err e)) }
+    ensures is_graph { IfOk result IsGraph }
+    ensures fault { result ≡ Err GraphFault.Fault → Rose (S.faults shelf.old) (S.faults shelf.new) }
+    ensures surely { S.IsSure shelf.old → result ≡ Err GraphFault.Fault → ⊥ }
+    ensures shelf { OnlyRead S.IsBegun S.held S.names S.IsSure S.faults shelf.old shelf.new }
+{
+    let mut lines = CountedLines::new(alloc);
+    let said = read_problem(alloc, &mut lines, shelf)?;
+    let roads = read_roads(alloc, &mut lines, shelf, said)?;
+    match Graph::build(alloc, said.nodes, roads.as_slice()) {
+        Ok(graph) => Ok(graph),
+        Err(BuildFault::NoMemory) => Err(GraphFault::NoMemory),
+        Err(BuildFault::Large | BuildFault::Node { .. }) => unreachable!(),
+    }
+}
+
+/// Reads as far as the problem line.
+fn read_problem<S: Shelf>(
+    alloc: Global,
+    lines: &mut CountedLines,
+    shelf: &mut S,
+) -> Result<Said, GraphFault>
+    requires begun { S.IsBegun shelf.old }
+    requires unstopped { lines.old.stopped ≡ None }
+    ensures said { IfOk result (λ said. graph_ahead lines.old.given (ahead lines.old (S.left shelf.old)) ≡ option_map (over_nodes said.nodes) (roads_ahead said.nodes said.roads 0 lines.new.given (ahead lines.new (S.left shelf.new)))) }
+    ensures few_nodes { IfOk result (λ said. said.nodes ≤ most_nodes) }
+    ensures few_roads { IfOk result (λ said. said.roads ≤ most_roads) }
+    ensures refused { IfErr result (λ e. IsRefusal e → WhereTold (graph_ahead lines.old.given (ahead lines.old (S.left shelf.old))) (λ answer. answer ≡ Err e)) }
+    ensures unstopped { IsOk result → lines.new.stopped ≡ None }
+    ensures fault { result ≡ Err GraphFault.Fault → Rose (S.faults shelf.old) (S.faults shelf.new) }
+    ensures surely { S.IsSure shelf.old → result ≡ Err GraphFault.Fault → ⊥ }
+    ensures shelf { OnlyRead S.IsBegun S.held S.names S.IsSure S.faults shelf.old shelf.new }
+{
+    while let Some(line) = lines.next(alloc, shelf)? {
+        if let Some(said) = problem_of(&line)? {
+            return Ok(said);
+        }
+    }
+    Err(GraphFault::Form {
+        line: lines.next_number(),
+    })
+}
+
+/// What a line says where no problem line came before it. None is of a line that is skipped.
+fn problem_of(line: &Line) -> Result<Option<Said>, GraphFault>
+    ensures says { (skipped : Result Roads GraphFault) (behind : ℕ → ℕ → Result (List Road) GraphFault) → first_line line.now.number (graph_line_in line.now.bytes) skipped behind ≡ graph_with result skipped behind }
+    ensures few_nodes { IfOk result (λ o. IfSome o (λ said. said.nodes ≤ most_nodes)) }
+    ensures few_roads { IfOk result (λ o. IfSome o (λ said. said.roads ≤ most_roads)) }
+    ensures refusal { IfErr result IsRefusal }
+{
+    match graph_line(line.bytes.as_slice()) {
+        GraphLine::Skipped => Ok(None),
+        GraphLine::Problem { nodes, roads } => {
+            if nodes > MOST_NODES || roads > MOST_ROADS {
+                return Err(GraphFault::Limit { line: line.number });
+            }
+            Ok(Some(Said {
+                nodes: nodes as u32,
+                roads: roads as u32,
+            }))
+        }
+        GraphLine::Arc { .. } | GraphLine::Formless => Err(GraphFault::Form { line: line.number }),
+    }
+}
+
+/// Reads so many roads, to the end of the text.
+fn read_roads<S: Shelf>(
+    alloc: Global,
+    lines: &mut CountedLines,
+    shelf: &mut S,
+    said: Said,
+) -> Result<Items<Road>, GraphFault>
+    requires begun { S.IsBegun shelf.old }
+    requires unstopped { lines.old.stopped ≡ None }
+    requires few_nodes { said.nodes ≤ most_nodes }
+    requires few_roads { said.roads ≤ most_roads }
+    ensures roads { IfOk result (λ roads. WhereTold (roads_ahead said.nodes said.roads 0 lines.old.given (ahead lines.old (S.left shelf.old))) (λ answer. answer ≡ Ok roads)) }
+    ensures sound { IfOk result (λ roads. fault_in said.nodes roads ≡ None) }
+    ensures refused { IfErr result (λ e. IsRefusal e → WhereTold (roads_ahead said.nodes said.roads 0 lines.old.given (ahead lines.old (S.left shelf.old))) (λ answer. answer ≡ Err e)) }
+    ensures fault { result ≡ Err GraphFault.Fault → Rose (S.faults shelf.old) (S.faults shelf.new) }
+    ensures surely { S.IsSure shelf.old → result ≡ Err GraphFault.Fault → ⊥ }
+    ensures shelf { OnlyRead S.IsBegun S.held S.names S.IsSure S.faults shelf.old shelf.new }
+{
+    let mut roads = Items::new(alloc);
+    while let Some(line) = lines.next(alloc, shelf)? {
+        let road = road_of(&line, said, roads.len())?;
+        push_some(&mut roads, road)?;
+    }
+    if roads.len() < said.roads as usize {
+        return Err(GraphFault::Count {
+            line: lines.next_number(),
+            said: u64::from(said.roads),
+            found: roads.len() as u64,
+        });
+    }
+    Ok(roads)
+}
+
+/// Puts a road at the end, where there is one.
+fn push_some(roads: &mut Items<Road>, road: Option<Road>) -> Result<(), NoMemory>
+    ensures ok { OnOk result (roads.new ≡ roads.old ++ option_to_list road) }
+    ensures err { OnErr result (roads.new ≡ roads.old) }
+{
+    match road {
+        Some(road) => roads.push(road),
+        None => Ok(()),
+    }
+}
+
+/// What a line says behind the problem line, where so many roads were found before it. None is of a line that is skipped.
+fn road_of(line: &Line, said: Said, found: usize) -> Result<Option<Road>, GraphFault>
+    requires few { found ≤ said.roads }
+    ensures says { (skipped another : Result (List Road) GraphFault) → arc_line said.nodes said.roads found line.now.number (graph_line_in line.now.bytes) skipped another ≡ roads_with result skipped another }
+    ensures within { IfOk result (λ o. IfSome o (λ road. is_within said.nodes road ≡ true)) }
+    ensures fewer { IfOk result (λ o. IfSome o (λ _. found < said.roads)) }
+    ensures refusal { IfErr result IsRefusal }
+{
+    match graph_line(line.bytes.as_slice()) {
+        GraphLine::Skipped => Ok(None),
+        GraphLine::Arc { from, to, weight } => {
+            if found == said.roads as usize {
+                return Err(GraphFault::Count {
+                    line: line.number,
+                    said: u64::from(said.roads),
+                    found: u64::from(said.roads) + 1,
+                });
+            }
+            Ok(Some(road(line.number, said.nodes, from, to, weight)?))
+        }
+        GraphLine::Problem { .. } | GraphLine::Formless => {
+            Err(GraphFault::Form { line: line.number })
+        }
+    }
+}
+
+/// The road of a line, among so many nodes.
+fn road(line: u64, nodes: u32, from: u64, to: u64, weight: u64) -> Result<Road, GraphFault>
+    ensures says { (another : Result (List Road) GraphFault) → road_and nodes line from to weight another ≡ road_with result another }
+    ensures within { IfOk result (λ road. is_within nodes road ≡ true) }
+    ensures refusal { IfErr result IsRefusal }
+{
+    let (Some(from), Some(to)) = (node(nodes, from), node(nodes, to)) else {
+        return Err(GraphFault::Node { line });
+    };
+    if weight > LARGEST_WEIGHT {
+        return Err(GraphFault::Weight { line });
+    }
+    Ok(Road {
+        from,
+        to,
+        weight: weight as u32,
+    })
+}
+
+/// The node of that number, where it is one of so many.
+fn node(nodes: u32, number: u64) -> Option<NodeNo>
+    ensures some { IfSome result (λ n. (n ≡ node_of number) × (is_node nodes n ≡ true)) }
+    ensures none { IfNone result (is_node nodes (node_of number) ≡ false) }
+{
+    if 1 <= number && number <= u64::from(nodes) {
+        Some(NodeNo(number as u32))
+    } else {
+        None
+    }
+}

@@ -1,0 +1,246 @@
+ghost use Rattle.std.specs.Prelude.{◌≡◌, ℕ, ℤ, ◌<◌, ◌≤◌, ◌+◌, ◌-◌, ◌^◌, [], true, false, IfOk, IfErr, IfSome, IfNone, IsOk, Err, None, List, ◌++◌, Result, Ok, OnOk, length, get_or, set};
+ghost use Rattle.std.specs.Option.{option_map, option_to_list};
+ghost use Rattle.ride_base.specs.Outside.{Rose, OnlyRead};
+ghost use Rattle.ride_base.specs.Told.{WhereTold, ahead};
+ghost use Rattle.dimacs_reader.specs.Forms.{place_line as place_line_in};
+ghost use Rattle.dimacs_reader.specs.Places.{Placed, AreCoordinates, places_of, opening_line, later_line, place_and};
+ghost use Rattle.dimacs_reader.specs.Reading.{places_ahead, placed_ahead, header_with, places_with, place_with, AreKept, placed_by, cut, read_coordinate};
+ghost use Rattle.dimacs_reader.specs.Refusals.{IsRefusal};
+
+use crate::faults::GraphFault;
+use crate::forms::{Coordinate, PlaceLine, place_line};
+use crate::graphs::MOST_NODES;
+use crate::lines::CountedLines;
+use ride_base::{Line, NoMemory, Shelf};
+use std::alloc::Global;
+
+/// A node, counted from 0, and where it lies.
+#[derive(Clone, Copy, Debug)]
+struct Placing {
+    index: usize,
+    x: i64,
+    y: i64,
+}
+
+/// Where nodes lie, as far as it was read.
+#[derive(Drop)]
+struct Coordinates {
+    held: Vec<(i64, i64)>,
+    /// Which of them were placed.
+    placed: Vec<bool>,
+    /// How many were placed.
+    count: u32,
+}
+
+/// Reads the places of so many nodes from the text that is begun: `p aux sp co N`, where N is that number, and then one line
+/// `v ID X Y` for each node, in any order. Comments and blank lines may stand anywhere. The first line that is bad is told.
+pub fn read_places<S: Shelf>(
+    alloc: Global,
+    shelf: &mut S,
+    nodes: u32,
+) -> Result<Vec<(i64, i64)>, GraphFault>
+    requires { S.IsBegun shelf.old }
+    ensures places { IfOk result (λ v. WhereTold (S.left shelf.old) (λ text. (placed : List Placed) × (places_of nodes text ≡ Ok placed) × AreCoordinates nodes placed v.items)) }
+    ensures all { IfOk result (λ v. length v.items ≡ nodes) }
+    ensures refused { IfErr result (λ e. IsRefusal e → WhereTold (S.left shelf.old) (λ text. places_of nodes text ≡ Err e)) }
+    ensures fault { result ≡ Err GraphFault.Fault → Rose (S.faults shelf.old) (S.faults shelf.new) }
+    ensures surely { S.IsSure shelf.old → result ≡ Err GraphFault.Fault → ⊥ }
+    ensures shelf { OnlyRead S.IsBegun S.held S.names S.IsSure S.faults shelf.old shelf.new }
+{
+    let mut lines = CountedLines::new(alloc);
+    read_header(alloc, &mut lines, shelf, nodes)?;
+    read_each(alloc, &mut lines, shelf, nodes)
+}
+
+/// Reads as far as the header, which must say so many nodes.
+fn read_header<S: Shelf>(
+    alloc: Global,
+    lines: &mut CountedLines,
+    shelf: &mut S,
+    nodes: u32,
+) -> Result<(), GraphFault>
+    requires begun { S.IsBegun shelf.old }
+    requires unstopped { lines.old.stopped ≡ None }
+    ensures header { OnOk result (places_ahead nodes lines.old.given (ahead lines.old (S.left shelf.old)) ≡ placed_ahead nodes [] lines.new.given (ahead lines.new (S.left shelf.new))) }
+    ensures refused { IfErr result (λ e. IsRefusal e → WhereTold (places_ahead nodes lines.old.given (ahead lines.old (S.left shelf.old))) (λ answer. answer ≡ Err e)) }
+    ensures unstopped { IsOk result → lines.new.stopped ≡ None }
+    ensures fault { result ≡ Err GraphFault.Fault → Rose (S.faults shelf.old) (S.faults shelf.new) }
+    ensures surely { S.IsSure shelf.old → result ≡ Err GraphFault.Fault → ⊥ }
+    ensures shelf { OnlyRead S.IsBegun S.held S.names S.IsSure S.faults shelf.old shelf.new }
+{
+    while let Some(line) = lines.next(alloc, shelf)? {
+        if is_header(&line, nodes)? {
+            return Ok(());
+        }
+    }
+    Err(GraphFault::Form {
+        line: lines.next_number(),
+    })
+}
+
+/// Whether a line is the header, where none came before it.
+fn is_header(line: &Line, nodes: u32) -> Result<bool, GraphFault>
+    ensures says { (passed behind : Result (List Placed) GraphFault) → opening_line nodes line.now.number (place_line_in line.now.bytes) passed behind ≡ header_with result passed behind }
+    ensures refusal { IfErr result IsRefusal }
+{
+    match place_line(line.bytes.as_slice()) {
+        PlaceLine::Passed => Ok(false),
+        PlaceLine::Header { nodes: said } => {
+            if said > MOST_NODES {
+                return Err(GraphFault::Limit { line: line.number });
+            }
+            if said != u64::from(nodes) {
+                return Err(GraphFault::Count {
+                    line: line.number,
+                    said,
+                    found: u64::from(nodes),
+                });
+            }
+            Ok(true)
+        }
+        PlaceLine::Place { .. } | PlaceLine::Shapeless => {
+            Err(GraphFault::Form { line: line.number })
+        }
+    }
+}
+
+/// Reads the place of each node, to the end of the text.
+fn read_each<S: Shelf>(
+    alloc: Global,
+    lines: &mut CountedLines,
+    shelf: &mut S,
+    nodes: u32,
+) -> Result<Vec<(i64, i64)>, GraphFault>
+    requires begun { S.IsBegun shelf.old }
+    requires unstopped { lines.old.stopped ≡ None }
+    ensures places { IfOk result (λ v. WhereTold (placed_ahead nodes [] lines.old.given (ahead lines.old (S.left shelf.old))) (λ answer. (placed : List Placed) × (answer ≡ Ok placed) × AreCoordinates nodes placed v.items)) }
+    ensures all { IfOk result (λ v. length v.items ≡ nodes) }
+    ensures refused { IfErr result (λ e. IsRefusal e → WhereTold (placed_ahead nodes [] lines.old.given (ahead lines.old (S.left shelf.old))) (λ answer. answer ≡ Err e)) }
+    ensures fault { result ≡ Err GraphFault.Fault → Rose (S.faults shelf.old) (S.faults shelf.new) }
+    ensures surely { S.IsSure shelf.old → result ≡ Err GraphFault.Fault → ⊥ }
+    ensures shelf { OnlyRead S.IsBegun S.held S.names S.IsSure S.faults shelf.old shelf.new }
+{
+    let mut coordinates = Coordinates::unplaced(alloc, nodes)?;
+    while let Some(line) = lines.next(alloc, shelf)? {
+        let placing = coordinates.placing_of(&line, nodes)?;
+        coordinates.put_some(placing);
+    }
+    if coordinates.count < nodes {
+        return Err(GraphFault::Count {
+            line: lines.next_number(),
+            said: u64::from(nodes),
+            found: u64::from(coordinates.count),
+        });
+    }
+    Ok(coordinates.held)
+}
+
+impl Coordinates {
+    /// None of so many nodes is placed.
+    fn unplaced(alloc: Global, nodes: u32) -> Result<Coordinates, NoMemory>
+        ensures { IfOk result (λ c. AreKept nodes [] c.held.items c.placed.items c.count) }
+    {
+        let mut held = Vec::new(alloc);
+        held.resize(nodes as usize, (0, 0))?;
+        let mut placed = Vec::new(alloc);
+        placed.resize(nodes as usize, false)?;
+        Ok(Coordinates {
+            held,
+            placed,
+            count: 0,
+        })
+    }
+
+    /// What a line says behind the header. None is of a line that is passed.
+    fn placing_of(&self, line: &Line, nodes: u32) -> Result<Option<Placing>, GraphFault>
+        requires { self.now.count ≤ nodes }
+        ensures says { (before : List Placed) → AreKept nodes before self.now.held.items self.now.placed.items self.now.count → (passed : Result (List Placed) GraphFault) (another : Placed → Result (List Placed) GraphFault)
+            → later_line nodes line.now.number before (place_line_in line.now.bytes) passed another ≡ places_with result passed another }
+        ensures within { IfOk result (λ o. IfSome o (λ placing. placing.index < length self.now.placed.items)) }
+        ensures free { IfOk result (λ o. IfSome o (λ placing. get_or self.now.placed.items placing.index false ≡ false)) }
+        ensures fewer { IfOk result (λ o. IfSome o (λ _. self.now.count < nodes)) }
+        ensures refusal { IfErr result IsRefusal }
+    {
+        match place_line(line.bytes.as_slice()) {
+            PlaceLine::Passed => Ok(None),
+            PlaceLine::Place { node, x, y } => {
+                if self.count == nodes {
+                    return Err(GraphFault::Count {
+                        line: line.number,
+                        said: u64::from(nodes),
+                        found: u64::from(nodes) + 1,
+                    });
+                }
+                Ok(Some(self.placing(line.number, node, x, y)?))
+            }
+            PlaceLine::Header { .. } | PlaceLine::Shapeless => {
+                Err(GraphFault::Form { line: line.number })
+            }
+        }
+    }
+
+    /// The place of a line, whose node must be one that has none.
+    fn placing(
+        &self,
+        line: u64,
+        node: u64,
+        x: Coordinate,
+        y: Coordinate,
+    ) -> Result<Placing, GraphFault>
+        ensures says { (nodes : ℕ) (before : List Placed) → nodes < 2 ^ 32 → AreKept nodes before self.now.held.items self.now.placed.items self.now.count → (number : ℕ) (east north : ℤ) → node ≡ cut number → x ≡ read_coordinate east → y ≡ read_coordinate north
+            → (another : Placed → Result (List Placed) GraphFault) → place_and nodes line before (record { node = number; x = east; y = north }) (another (record { node = number; x = east; y = north })) ≡ place_with result another }
+        ensures within { IfOk result (λ placing. placing.index < length self.now.placed.items) }
+        ensures free { IfOk result (λ placing. get_or self.now.placed.items placing.index false ≡ false) }
+        ensures refusal { IfErr result IsRefusal }
+    {
+        let Some(index) = self.free(node) else {
+            return Err(GraphFault::Node { line });
+        };
+        match (x, y) {
+            (Coordinate::Within(x), Coordinate::Within(y)) => Ok(Placing { index, x, y }),
+            _ => Err(GraphFault::Weight { line }),
+        }
+    }
+
+    /// Where the node of that number stands, if it is one that has no place.
+    fn free(&self, node: u64) -> Option<usize>
+        ensures some { IfSome result (λ i. (node ≡ i + 1) × (i < length self.now.placed.items) × (get_or self.now.placed.items i false ≡ false)) }
+        ensures none { IfNone result ((i : ℕ) → node ≡ i + 1 → i < length self.now.placed.items → get_or self.now.placed.items i false ≡ true) }
+    {
+        let index = node.checked_sub(1)? as usize;
+        if index < self.placed.len() && !self.placed[index] {
+            Some(index)
+        } else {
+            None
+        }
+    }
+
+    /// Places a node that has no place, where there is one to be placed.
+    fn put_some(&mut self, placing: Option<Placing>)
+        requires same { length self.old.held.items ≡ length self.old.placed.items }
+        requires within { IfSome placing (λ placing. placing.index < length self.old.placed.items) }
+        requires free { IfSome placing (λ placing. get_or self.old.placed.items placing.index false ≡ false) }
+        requires few { IfSome placing (λ _. self.old.count < 2 ^ 32 - 1) }
+        ensures kept { (nodes : ℕ) (before : List Placed) → AreKept nodes before self.old.held.items self.old.placed.items self.old.count
+            → AreKept nodes (before ++ option_to_list (option_map placed_by placing)) self.new.held.items self.new.placed.items self.new.count }
+        ensures count { self.new.count ≡ self.old.count + length (option_to_list placing) }
+    {
+        if let Some(placing) = placing {
+            self.put(placing);
+        }
+    }
+
+    /// Places a node that has no place.
+    fn put(&mut self, placing: Placing)
+        requires held { placing.index < length self.old.held.items }
+        requires placed { placing.index < length self.old.placed.items }
+        requires few { self.old.count < 2 ^ 32 - 1 }
+        ensures held { self.new.held.items ≡ set self.old.held.items placing.index (placing.x, placing.y) }
+        ensures placed { self.new.placed.items ≡ set self.old.placed.items placing.index true }
+        ensures count { self.new.count ≡ self.old.count + 1 }
+    {
+        self.held[placing.index] = (placing.x, placing.y);
+        self.placed[placing.index] = true;
+        self.count += 1;
+    }
+}
