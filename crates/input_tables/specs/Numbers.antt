@@ -1,0 +1,36 @@
+use Rattle.std.specs.Prelude.{ℕ, List, [], ◌∷◌, Option, Some, None, Result, Err}
+use Rattle.ride_base.specs.Fields.{capped_of}
+use Rattle.input_tables.specs.declared.faults.StreamFault.{StreamFault}
+use Rattle.input_tables.specs.declared.faults.StreamFault.TheVariants.{Form}
+use Rattle.input_tables.specs.declared.lines.StreamLine.{StreamLine}
+use Rattle.input_tables.specs.Streams.{ranged_ride}
+
+-- The numbers of a line, as they are read one after another.
+
+-- a number before others
+abbrev pub before : Option ℕ → Option (List ℕ) → Option (List ℕ)
+before None more = None
+before (Some number) None = None
+before (Some number) (Some numbers) = Some (number ∷ numbers)
+
+-- the numbers that fields spell, each cut at the largest of 64 bits, where each field is a number
+abbrev pub numbers_of : List (List ℕ) → Option (List ℕ)
+numbers_of [] = Some []
+numbers_of (field ∷ fields) = before (capped_of field) (numbers_of fields)
+
+-- no number is left, or not each field is one
+abbrev pub IsOver : Option (List ℕ) → Type 0
+IsOver None = Unit {0}
+IsOver (Some []) = Unit {0}
+IsOver (Some (number ∷ numbers)) = ⊥
+
+-- a number is left, or not each field is one
+abbrev pub GoesOn : Option (List ℕ) → Type 0
+GoesOn None = Unit {0}
+GoesOn (Some []) = ⊥
+GoesOn (Some (number ∷ numbers)) = Unit {0}
+
+-- what these numbers behind an `r` say
+abbrev pub ride_with : Option (List ℕ) → Result StreamLine StreamFault
+ride_with (Some (number ∷ pickup ∷ dropoff ∷ moment ∷ riders ∷ [])) = ranged_ride number pickup dropoff moment riders
+ride_with numbers = Err Form

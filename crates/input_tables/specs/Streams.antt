@@ -1,0 +1,65 @@
+use Rattle.std.specs.Prelude.{ℕ, ◌≤◌, ◌==◌, ◌&&◌, nat_le, Bool, false, cond, List, [], ◌∷◌, Result, Ok, Err, codes}
+use Rattle.std.specs.Str.{bytes_eq}
+use Rattle.ride_base.specs.Fields.{fields_of, is_number, value_of}
+use Rattle.stop_schedule.specs.declared.request.Request.{Request}
+use Rattle.input_tables.specs.declared.faults.StreamFault.{StreamFault}
+use Rattle.input_tables.specs.declared.faults.StreamFault.TheVariants.{Form, Range}
+use Rattle.input_tables.specs.declared.lines.StreamLine.{StreamLine}
+use Rattle.input_tables.specs.declared.lines.StreamLine.TheVariants.{Ride, Move, Nothing}
+
+-- What a line of a request stream says.
+
+-- the latest moment, and the largest number of a request
+abbrev pub largest_moment : ℕ
+largest_moment = 1099511627776
+
+abbrev pub largest_32 : ℕ
+largest_32 = 4294967295
+
+-- the first byte of a comment, behind blanks, is `c`
+abbrev pub begins_comment : List ℕ → Bool
+begins_comment [] = false
+begins_comment (b ∷ bs) = b == 99
+
+abbrev pub are_in_range : (number pickup dropoff moment riders : ℕ) → Bool
+are_in_range number pickup dropoff moment riders =
+    nat_le number largest_moment && (nat_le pickup largest_32 && (nat_le dropoff largest_32 && (nat_le moment largest_moment && nat_le riders largest_32)))
+
+abbrev pub request_of : (number pickup dropoff moment riders : ℕ) → Request
+request_of number pickup dropoff moment riders = record { no = record { 0 = number }; pickup = record { 0 = pickup }; dropoff = record { 0 = dropoff }; moment = moment; riders = riders }
+
+abbrev pub ranged_ride : (number pickup dropoff moment riders : ℕ) → Result StreamLine StreamFault
+ranged_ride number pickup dropoff moment riders =
+    cond (are_in_range number pickup dropoff moment riders) (Ok (Ride (request_of number pickup dropoff moment riders))) (Err Range)
+
+-- `r ID P D T Q`, behind its first field
+abbrev pub ride_of : List (List ℕ) → Result StreamLine StreamFault
+ride_of (number ∷ pickup ∷ dropoff ∷ moment ∷ riders ∷ []) =
+    cond (is_number number && (is_number pickup && (is_number dropoff && (is_number moment && is_number riders))))
+    (ranged_ride (value_of number) (value_of pickup) (value_of dropoff) (value_of moment) (value_of riders)) (Err Form)
+ride_of fields = Err Form
+
+abbrev pub ranged_move : (moment : ℕ) → Result StreamLine StreamFault
+ranged_move moment = cond (nat_le moment largest_moment) (Ok (Move moment)) (Err Range)
+
+-- `t T`, behind its first field
+abbrev pub move_of : List (List ℕ) → Result StreamLine StreamFault
+move_of (moment ∷ []) = cond (is_number moment) (ranged_move (value_of moment)) (Err Form)
+move_of fields = Err Form
+
+abbrev pub said_by : List (List ℕ) → Result StreamLine StreamFault
+said_by [] = Ok Nothing
+said_by (first ∷ fields) =
+    cond (begins_comment first) (Ok Nothing)
+    (cond (bytes_eq first (codes "r")) (ride_of fields)
+    (cond (bytes_eq first (codes "t")) (move_of fields) (Err Form)))
+
+-- what a line says, or why it is none of a stream
+abbrev pub stream_line_of : List ℕ → Result StreamLine StreamFault
+stream_line_of line = said_by (fields_of line)
+
+-- the numbers of a line that says something are in their ranges
+abbrev pub IsInRange : StreamLine → Type 0
+IsInRange (Ride request) = (request.no.0 ≤ largest_moment) × (request.moment ≤ largest_moment)
+IsInRange (Move moment) = moment ≤ largest_moment
+IsInRange Nothing = Unit {0}

@@ -1,0 +1,202 @@
+ghost use Rattle.std.specs.Prelude.{◌≡◌, ℕ, ◌≤◌, [], ◌∷◌, ◌++◌, false, IfOk, IfErr, OnOk, OnErr, Ok, Err, List, map};
+ghost use Rattle.csv.specs.Reading.{default_config, records, strip_bom};
+ghost use Rattle.csv.specs.Records.{fields_of};
+ghost use Rattle.ride_base.specs.Outside.{Rose, OnlyRead};
+ghost use Rattle.ride_base.specs.Told.{WhereTold};
+ghost use Rattle.stop_schedule.specs.declared.vehicle.Vehicle.{Vehicle};
+ghost use Rattle.std.specs.BTreeMap.{values};
+ghost use Rattle.input_tables.specs.Fleets.{fleet_of, fleet_in, vehicle_in as vehicle_in_row, vehicles_in, without_blanks, stood_before, is_in_range as is_in_range_of};
+ghost use Rattle.input_tables.specs.Records.{IsReading, records_left};
+ghost use Rattle.input_tables.specs.Refusals.{IsRefusal, AreVehicles};
+ghost use Rattle.input_tables.specs.Rows.{IsHeaded, Keeps, kept_of, ranged_by, vehicle_by};
+
+use crate::cells::{RowNumbers, is_header, row_numbers};
+use crate::faults::FleetFault;
+use crate::records::{next_record, records_of};
+use csv::{ByteRecord, Reader};
+use ride_base::{Items, LineFault, NoMemory, Shelf, VehicleNo, whole};
+use road_graph::NodeNo;
+use std::alloc::Global;
+use std::collections::BTreeMap;
+use stop_schedule::Vehicle;
+
+/// The most bytes of a table.
+const LARGEST_TEXT: u64 = 1 << 24;
+
+const MOST_VEHICLES: u64 = 65_536;
+
+const MOST_SEATS: u64 = 16;
+
+/// The largest number of a vehicle.
+const LARGEST_NUMBER: u64 = 4_294_967_295;
+
+/// The latest begin and end of service.
+const LARGEST_MOMENT: u64 = 1 << 40;
+
+/// The vehicles of a table.
+type Vehicles = BTreeMap<VehicleNo, Vehicle>;
+
+/// Reads the vehicles of the table that is begun, over a graph of so many nodes, in rising order of number. The first bad row is told,
+/// and of it the form before a range, and a range before a doubled number; `Large` is told before all else. After an error some of
+/// the text may be lost.
+pub fn read_fleet<S: Shelf>(
+    alloc: Global,
+    shelf: &mut S,
+    nodes: u32,
+) -> Result<Items<Vehicle>, FleetFault>
+    requires { S.IsBegun shelf.old }
+    ensures fleet { IfOk result (λ v. WhereTold (S.left shelf.old) (λ text. fleet_of nodes text ≡ Ok v)) }
+    ensures vehicles { IfOk result (λ v. AreVehicles nodes v) }
+    ensures refused { IfErr result (λ e. IsRefusal e → WhereTold (S.left shelf.old) (λ text. fleet_of nodes text ≡ Err e)) }
+    ensures fault { result ≡ Err FleetFault.Fault → Rose (S.faults shelf.old) (S.faults shelf.new) }
+    ensures surely { S.IsSure shelf.old → result ≡ Err FleetFault.Fault → ⊥ }
+    ensures shelf { OnlyRead S.IsBegun S.held S.names S.IsSure S.faults shelf.old shelf.new }
+{
+    match whole(alloc, shelf, LARGEST_TEXT) {
+        Ok(text) => vehicles_of(alloc, text.as_slice(), nodes),
+        Err(LineFault::Fault) => Err(FleetFault::Fault),
+        Err(LineFault::Large) => Err(FleetFault::Large),
+        Err(LineFault::NoMemory) => Err(FleetFault::NoMemory),
+        Err(LineFault::Long) => unreachable!(),
+    }
+}
+
+/// The vehicles of a text.
+fn vehicles_of(alloc: Global, text: &[u8], nodes: u32) -> Result<Items<Vehicle>, FleetFault>
+    ensures fleet { IfOk result (λ v. fleet_in nodes (records default_config (strip_bom text.now)) ≡ Ok v) }
+    ensures vehicles { IfOk result (λ v. AreVehicles nodes v) }
+    ensures refused { IfErr result (λ e. IsRefusal e → fleet_in nodes (records default_config (strip_bom text.now)) ≡ Err e) }
+    ensures unfailed { result ≡ Err FleetFault.Fault → ⊥ }
+{
+    let mut reader = records_of(alloc, text);
+    read_table(alloc, &mut reader, nodes)
+}
+
+/// Reads a table from its header on. One list of fields serves all records.
+fn read_table(
+    alloc: Global,
+    reader: &mut Reader<&[u8]>,
+    nodes: u32,
+) -> Result<Items<Vehicle>, FleetFault>
+    requires { IsReading reader.old }
+    ensures fleet { IfOk result (λ v. fleet_in nodes (records_left reader.old) ≡ Ok v) }
+    ensures vehicles { IfOk result (λ v. AreVehicles nodes v) }
+    ensures refused { IfErr result (λ e. IsRefusal e → fleet_in nodes (records_left reader.old) ≡ Err e) }
+    ensures unfailed { result ≡ Err FleetFault.Fault → ⊥ }
+{
+    let mut fields = ByteRecord::new(alloc);
+    read_header(reader, &mut fields)?;
+    let vehicles = read_rows(alloc, reader, &mut fields, nodes)?;
+    Ok(by_number(alloc, vehicles)?)
+}
+
+/// Reads the first record, which is the header.
+fn read_header(reader: &mut Reader<&[u8]>, fields: &mut ByteRecord) -> Result<(), FleetFault>
+    requires { IsReading reader.old }
+    ensures reading { OnOk result (IsReading reader.new) }
+    ensures header { OnOk result (IsHeaded (records_left reader.old) (records_left reader.new)) }
+    ensures refused { IfErr result (λ e. IsRefusal e → (nodes : ℕ) → fleet_in nodes (records_left reader.old) ≡ Err e) }
+    ensures unfailed { result ≡ Err FleetFault.Fault → ⊥ }
+{
+    if !next_record(reader, fields)? {
+        return Err(FleetFault::Header);
+    }
+    if !is_header(fields) {
+        return Err(FleetFault::Header);
+    }
+    Ok(())
+}
+
+/// Reads the rows behind the header.
+fn read_rows(
+    alloc: Global,
+    reader: &mut Reader<&[u8]>,
+    fields: &mut ByteRecord,
+    nodes: u32,
+) -> Result<Vehicles, FleetFault>
+    requires { IsReading reader.old }
+    ensures rows { IfOk result (λ v. kept_of (vehicles_in nodes 1 [] (records_left reader.old)) ≡ Ok v.entries) }
+    ensures refused { IfErr result (λ e. IsRefusal e → vehicles_in nodes 1 [] (records_left reader.old) ≡ Err e) }
+    ensures unfailed { result ≡ Err FleetFault.Fault → ⊥ }
+{
+    let mut vehicles = BTreeMap::new(alloc);
+    let mut row: u64 = 1;
+    while next_record(reader, fields)? {
+        let vehicle = vehicle_in(fields, row, &vehicles, nodes)?;
+        put(&mut vehicles, vehicle)?;
+        row += 1;
+    }
+    Ok(vehicles)
+}
+
+/// The vehicle of a row behind others.
+fn vehicle_in(
+    fields: &ByteRecord,
+    row: u64,
+    before: &Vehicles,
+    nodes: u32,
+) -> Result<Vehicle, FleetFault>
+    ensures refusal { IfErr result IsRefusal }
+    ensures vehicle { (rows : List Vehicle) → Keeps before.now rows → result ≡ vehicle_in_row nodes row rows (map without_blanks (fields_of fields.now)) }
+{
+    let Some(numbers) = row_numbers(fields) else {
+        return Err(FleetFault::Form { row });
+    };
+    let Some(vehicle) = vehicle(&numbers, nodes) else {
+        return Err(FleetFault::Range { row });
+    };
+    if row > MOST_VEHICLES {
+        return Err(FleetFault::Range { row });
+    }
+    if before.contains_key(&vehicle.no) {
+        return Err(FleetFault::Double { row });
+    }
+    Ok(vehicle)
+}
+
+/// Whether the numbers are ones of a vehicle over so many nodes.
+fn is_in_range(numbers: &RowNumbers, nodes: u32) -> bool
+    ensures { result ≡ is_in_range_of nodes (vehicle_by numbers.now) }
+{
+    1 <= numbers.number
+        && numbers.number <= LARGEST_NUMBER
+        && 1 <= numbers.start
+        && numbers.start <= u64::from(nodes)
+        && 1 <= numbers.seats
+        && numbers.seats <= MOST_SEATS
+        && numbers.from <= LARGEST_MOMENT
+        && numbers.until <= LARGEST_MOMENT
+        && numbers.from <= numbers.until
+}
+
+/// The vehicle of a row's numbers over so many nodes. None where one of them is out of its range.
+fn vehicle(numbers: &RowNumbers, nodes: u32) -> Option<Vehicle>
+    ensures { result ≡ ranged_by nodes numbers.now }
+{
+    if !is_in_range(numbers, nodes) {
+        return None;
+    }
+    Some(Vehicle {
+        no: VehicleNo(numbers.number as u32),
+        start: NodeNo(numbers.start as u32),
+        seats: numbers.seats as u32,
+        from: numbers.from,
+        until: numbers.until,
+    })
+}
+
+/// Puts a vehicle of a new number among others.
+fn put(vehicles: &mut Vehicles, vehicle: Vehicle) -> Result<(), NoMemory>
+    ensures { (rows : List Vehicle) → Keeps vehicles.old rows → stood_before rows vehicle ≡ false → OnOk result (Keeps vehicles.new (rows ++ vehicle ∷ [])) }
+{
+    vehicles.insert(vehicle.no, vehicle)?;
+    Ok(())
+}
+
+/// The vehicles in rising order of number.
+fn by_number(alloc: Global, vehicles: Vehicles) -> Result<Items<Vehicle>, NoMemory>
+    ensures { IfOk result (λ v. v ≡ values vehicles) }
+{
+    let sorted = vehicles.into_values().collect(alloc)?;
+    Ok(Items::from_vec(sorted))
+}

@@ -1,0 +1,124 @@
+ghost use Rattle.std.specs.Prelude.{◌≡◌, [], Some, Err, IfOk, IfErr, OnOk};
+ghost use Rattle.ride_base.specs.Fields.{fields_of};
+ghost use Rattle.input_tables.specs.Numbers.{before, numbers_of, IsOver, GoesOn, ride_with};
+ghost use Rattle.input_tables.specs.Streams.{IsInRange, stream_line_of, move_of, ranged_ride};
+
+use crate::faults::StreamFault;
+use ride_base::{Line, RequestNo, capped_number, next_field};
+use road_graph::NodeNo;
+use stop_schedule::Request;
+
+/// The latest moment, and the largest number of a request.
+const LARGEST_MOMENT: u64 = 1 << 40;
+
+/// The largest number of a node, and the most riders.
+const LARGEST_32: u64 = 4_294_967_295;
+
+/// What a line of a request stream says.
+#[derive(Clone, Copy, Debug, PartialEq, Eq)]
+pub enum StreamLine {
+    /// A request is submitted.
+    Ride(Request),
+    /// The clock moves to this moment.
+    Move(u64),
+    /// A comment, or a line without fields.
+    Nothing,
+}
+
+/// What a line of a request stream says: `r ID P D T Q` is a request and `t T` a move of the clock. A form that is none is told before
+/// a number that is out of its range. It takes no memory.
+pub fn stream_line(line: &Line) -> Result<StreamLine, StreamFault>
+    ensures says { result ≡ stream_line_of line.now.bytes }
+    ensures ranges { IfOk result IsInRange }
+{
+    let Some((first, rest)) = next_field(line.bytes.as_slice()) else {
+        return Ok(StreamLine::Nothing);
+    };
+    if first.starts_with(b"c") {
+        Ok(StreamLine::Nothing)
+    } else if first == b"r".as_slice() {
+        ride(rest)
+    } else if first == b"t".as_slice() {
+        clock_move(rest)
+    } else {
+        Err(StreamFault::Form)
+    }
+}
+
+/// `r ID P D T Q`, behind its first field.
+fn ride(fields: &[u8]) -> Result<StreamLine, StreamFault>
+    ensures says { result ≡ ride_with (numbers_of (fields_of fields.now)) }
+    ensures ranges { IfOk result IsInRange }
+{
+    let (no, fields) = next_number(fields)?;
+    let (pickup, fields) = next_number(fields)?;
+    let (dropoff, fields) = next_number(fields)?;
+    let (moment, fields) = next_number(fields)?;
+    let (riders, fields) = next_number(fields)?;
+    no_field(fields)?;
+    request(no, pickup, dropoff, moment, riders)
+}
+
+/// `t T`, behind its first field.
+fn clock_move(fields: &[u8]) -> Result<StreamLine, StreamFault>
+    ensures says { result ≡ move_of (fields_of fields.now) }
+    ensures ranges { IfOk result IsInRange }
+{
+    let (moment, fields) = next_number(fields)?;
+    no_field(fields)?;
+    if moment <= LARGEST_MOMENT {
+        Ok(StreamLine::Move(moment))
+    } else {
+        Err(StreamFault::Range)
+    }
+}
+
+/// The request of these numbers, or that one of them is out of its range.
+fn request(
+    no: u64,
+    pickup: u64,
+    dropoff: u64,
+    moment: u64,
+    riders: u64,
+) -> Result<StreamLine, StreamFault>
+    ensures says { result ≡ ranged_ride no pickup dropoff moment riders }
+    ensures ranges { IfOk result IsInRange }
+{
+    if no <= LARGEST_MOMENT
+        && pickup <= LARGEST_32
+        && dropoff <= LARGEST_32
+        && moment <= LARGEST_MOMENT
+        && riders <= LARGEST_32
+    {
+        Ok(StreamLine::Ride(Request {
+            no: RequestNo(no),
+            pickup: NodeNo(pickup as u32),
+            dropoff: NodeNo(dropoff as u32),
+            moment,
+            riders: riders as u32,
+        }))
+    } else {
+        Err(StreamFault::Range)
+    }
+}
+
+/// The number of the next field, or 2^64 - 1 where it is larger, and what stands behind it.
+fn next_number(fields: &[u8]) -> Result<(u64, &[u8]), StreamFault>
+    ensures number { IfOk result (λ parts. numbers_of (fields_of fields.now) ≡ before (Some parts.0) (numbers_of (fields_of parts.1.now))) }
+    ensures none { IfErr result (λ e. (e ≡ StreamFault.Form) × IsOver (numbers_of (fields_of fields.now))) }
+{
+    let (field, rest) = next_field(fields).ok_or(StreamFault::Form)?;
+    let number = capped_number(field).ok_or(StreamFault::Form)?;
+    Ok((number, rest))
+}
+
+/// No field is left.
+fn no_field(fields: &[u8]) -> Result<(), StreamFault>
+    ensures none { OnOk result (fields_of fields.now ≡ []) }
+    ensures more { IfErr result (λ e. (e ≡ StreamFault.Form) × GoesOn (numbers_of (fields_of fields.now))) }
+{
+    match next_field(fields) {
+        None => Ok(()),
+        Some(_) => Err(StreamFault::Form),
+    }
+}
