@@ -1,8 +1,6 @@
 // Reads road graphs and places of their nodes from texts in the form of the ninth DIMACS challenge.
 #![tactic(auto)]
 
-#[cfg(test)]
-mod cases;
 mod faults;
 mod forms;
 mod graphs;

@@ -4,38 +4,59 @@
 use dispatch_top::{Status, run};
 use ride_base::{HostShelf, HostSink};
 use road_graph::Steps;
+use std::alloc::Global;
+use std::fs::Files;
+use std::io::Print;
 use std::process::ExitCode;
+use std::thread::Threads;
 use std::{env, io};
 
-fn main(rt: HostRuntime) -> io::Result<ExitCode> {
-    let mut words = Vec::new(rt.alloc());
-    for word in env::args(&rt)?.skip(1) {
-        words.push(word)?;
-    }
-    let mut shelf = HostShelf::new(&rt, rt.alloc());
-    let mut sink = HostSink::new(&rt);
-    let mut steps = Steps::start(&rt, ());
-    let status = run(
-        &rt,
-        rt.alloc(),
-        words.as_slice(),
-        &mut shelf,
-        &mut sink,
-        &mut steps,
-    );
-    if let Some(message) = message(status) {
-        eprintln!(rt; "{message}")?;
-    }
-    Ok(ExitCode::from(status.code()))
+fn main(rt: HostRuntime) -> ExitCode {
+    let status = match words(&rt) {
+        Ok(words) => answer(&rt, rt.alloc(), words.as_slice()),
+        Err(error) => refused(&error),
+    };
+    // A line that can't be told doesn't change how the run ended.
+    let _told = tell(&rt, status);
+    ExitCode::from(status.code())
 }
 
-/// What the standard error is told of a run that isn't done.
-fn message(status: Status) -> Option<&'static str> {
+/// The words of the command line, without the program's own name.
+fn words(rt: &HostRuntime) -> io::Result<Vec<String>> {
+    let mut words = Vec::new(rt.alloc());
+    for word in env::args(rt)?.skip(1) {
+        words.push(word)?;
+    }
+    Ok(words)
+}
+
+/// The status where there are no words: those that aren't UTF-8 are none of the forms, and else memory was wanted.
+fn refused(error: &io::Error) -> Status {
+    match error.kind() {
+        io::ErrorKind::InvalidData => Status::Usage,
+        _ => Status::NoMemory,
+    }
+}
+
+/// Runs over files and the standard output.
+fn answer<R: Threads + Sync + Files + Print>(rt: &R, alloc: Global, words: &[String]) -> Status {
+    let mut shelf = HostShelf::new(rt, alloc);
+    let mut sink = HostSink::new(rt);
+    let mut steps = Steps::start(rt, ());
+    run(rt, alloc, words, &mut shelf, &mut sink, &mut steps)
+}
+
+/// Tells the standard error why a run isn't done.
+fn tell(rt: &HostRuntime, status: Status) -> io::Result<()> {
     match status {
-        Status::Done => None,
-        Status::NotYet => Some("not yet"),
-        Status::ReadFault => Some("read fault"),
-        Status::WriteFault => Some("write fault"),
-        Status::NoMemory => Some("no memory"),
+        Status::Done => Ok(()),
+        Status::NotYet => eprintln!(rt; "not yet"),
+        Status::Usage => eprintln!(rt; "usage"),
+        Status::GraphText { line } => eprintln!(rt; "graph line {line}"),
+        Status::FleetText { row } => eprintln!(rt; "fleet row {row}"),
+        Status::StreamText { line } => eprintln!(rt; "stream line {line}"),
+        Status::ReadFault => eprintln!(rt; "read fault"),
+        Status::WriteFault => eprintln!(rt; "write fault"),
+        Status::NoMemory => eprintln!(rt; "no memory"),
     }
 }

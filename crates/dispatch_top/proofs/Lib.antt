@@ -1,14 +1,12 @@
+pub mod Fronts
+pub mod Histories
 pub mod Offering
-pub mod Parting
 pub mod Planning
 pub mod Reaches
-pub mod Roads
 pub mod Running
 pub mod Spanning
 pub mod Standing
 pub mod Streaming
 pub mod Taking
 pub mod Trying
-pub mod Vehicles
 pub mod Walking
-pub mod Words

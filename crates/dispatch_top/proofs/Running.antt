@@ -1,42 +1,47 @@
-use Rattle.std.proofs.Common.{◌≡◌, ℕ, ◌≤◌, List, [], ◌∷◌, ◌++◌, take, length, Option, Some, None, refl, sym, ap, subst, ◌∙◌, arith, append_assoc, append-nil}
-use Rattle.ride_base.specs.Outside.{Held, Untold, Absent, Text, Takes, Begins}
+use Rattle.std.proofs.Common.{◌≡◌, ℕ, List, [], ◌∷◌, ◌++◌, Option, Some, Result, Ok, Err, refl, sym, ap, subst, ◌∙◌, arith, append_assoc, append-nil, inl, inr}
+use Rattle.ride_base.specs.Outside.{Held, Untold, Absent, Text, Begins}
+use Rattle.ride_base.specs.Told.{WhereTold}
 use Rattle.ride_base.specs.declared.outside.BeginFault.{BeginFault}
-use Rattle.ride_base.specs.declared.outside.BeginFault.TheVariants.{Failed, NoMemory}
+use Rattle.ride_base.specs.declared.outside.BeginFault.TheVariants.{Failed, NoMemory as BeginNoMemory}
 use Rattle.road_graph.specs.Roads.{Roads}
+use Rattle.dimacs_reader.specs.declared.faults.GraphFault.{GraphFault}
+use Rattle.dimacs_reader.specs.declared.faults.GraphFault.TheVariants as graph
+use Rattle.dimacs_reader.specs.Graphs.{graph_of}
+use Rattle.dimacs_reader.specs.Refusals.{IsRefusal}
 use Rattle.stop_schedule.specs.declared.vehicle.Vehicle.{Vehicle}
-use Rattle.dispatch_top.specs.Forms.{graph_of, fleet_of}
-use Rattle.dispatch_top.specs.Runs.{Answered, AnsweredWhereTold, Told, BeganInOrder}
-use Rattle.dispatch_top.specs.Streams.{IsStreamAnswered}
-use Rattle.dispatch_top.specs.Told.{WhereTold}
+use Rattle.stop_schedule.specs.Rates.{Rates}
+use Rattle.input_tables.specs.declared.faults.FleetFault.{FleetFault}
+use Rattle.input_tables.specs.declared.faults.FleetFault.TheVariants as fleet
+use Rattle.input_tables.specs.Fleets.{fleet_of}
+use Rattle.input_tables.specs.Refusals.{IsRefusal as IsFleetRefusal}
+use Rattle.dispatch_top.specs.declared.ending.Ending.{Ending}
+use Rattle.dispatch_top.specs.declared.ending.Ending.TheVariants.{NotYet, GraphText, FleetText, StreamText, ReadFault, WriteFault, NoMemory}
+use Rattle.dispatch_top.specs.declared.status.Status.TheVariants as status
+use Rattle.dispatch_top.specs.Endings.{ended_as, status_of, ending_of_begin, ending_of_graph, ending_of_fleet}
+use Rattle.dispatch_top.specs.Runs.{EndsAt, EndsEarly, EndsUnread, AfterReading, OfHeld, Ends, HasBadFleet}
+use Rattle.dispatch_top.specs.Streaming.{Streamed}
+use Rattle.dispatch_top.specs.Streams.{StreamEnd, rides_of}
+use Rattle.dispatch_top.specs.Tasks.{Answering, Task, Answer, BeganInOrder, BeganFewer}
 
--- the first names of three were begun
-abbrev pub AreBegun : (g f s : List ℕ) → List (List ℕ) → List (List ℕ) → Type 0
-AreBegun g f s old new = (k : ℕ) × (k ≤ 3) × (new ≡ old ++ take k (g ∷ f ∷ s ∷ []))
+abbrev pub run_of : (graph fleet stream : List ℕ) → Rates → Answering
+run_of graph fleet stream rates = record { graph = graph; fleet = fleet; stream = stream; rates = rates }
 
-pub none_begun : (g f s : List ℕ) (old new : List (List ℕ)) → new ≡ old → AreBegun g f s old new
-none_begun g f s old new e = (0, omega arith, e ∙ sym (append-nil old))
+-- The names that are begun, in order.
 
-pub one_begun : (g f s : List ℕ) (old new : List (List ℕ)) → new ≡ old ++ g ∷ [] → AreBegun g f s old new
-one_begun g f s old new e = (1, omega arith, e)
+pub none_begun : (a : Answering) (old new : List (List ℕ)) → new ≡ old → BeganFewer a old new
+none_begun a old new e = (0, omega arith, e ∙ sym (append-nil old))
 
-pub two_begun : (g f s : List ℕ) (old new : List (List ℕ)) → new ≡ (old ++ g ∷ []) ++ f ∷ [] → AreBegun g f s old new
-two_begun g f s old new e = (2, omega arith, e ∙ append_assoc old (g ∷ []) (f ∷ []))
+pub one_begun : (a : Answering) (old new : List (List ℕ)) → new ≡ old ++ a.graph ∷ [] → BeganFewer a old new
+one_begun a old new e = (1, omega arith, e)
 
-pub three_begun : (g f s : List ℕ) (old new : List (List ℕ)) → new ≡ ((old ++ g ∷ []) ++ f ∷ []) ++ s ∷ [] → AreBegun g f s old new
-three_begun g f s old new e = (3, omega arith, e ∙ ap (λ (l : List (List ℕ)). l ++ s ∷ []) (append_assoc old (g ∷ []) (f ∷ [])) ∙ append_assoc old (g ∷ f ∷ []) (s ∷ []))
+pub two_begun : (a : Answering) (old new : List (List ℕ)) → new ≡ (old ++ a.graph ∷ []) ++ a.fleet ∷ [] → BeganFewer a old new
+two_begun a old new e = (2, omega arith, e ∙ append_assoc old (a.graph ∷ []) (a.fleet ∷ []))
 
--- after a fault of the first, the second and the third begin
-pub first_fault : (g f s : List ℕ) (old new : List (List ℕ)) (fault : BeginFault) → (fault ≡ Failed → new ≡ old ++ g ∷ []) → (fault ≡ NoMemory → new ≡ old) → AreBegun g f s old new
-first_fault g f s old new Failed h k = one_begun g f s old new (h refl)
-first_fault g f s old new NoMemory h k = none_begun g f s old new (k refl)
+pub three_begun : (a : Answering) (old new : List (List ℕ)) → new ≡ ((old ++ a.graph ∷ []) ++ a.fleet ∷ []) ++ a.stream ∷ [] → BeganInOrder a old new
+three_begun a old new e = (3, omega arith, e ∙ ap (λ (l : List (List ℕ)). l ++ a.stream ∷ []) (append_assoc old (a.graph ∷ []) (a.fleet ∷ [])) ∙ append_assoc old (a.graph ∷ a.fleet ∷ []) (a.stream ∷ []))
 
-pub second_fault : (g f s : List ℕ) (old mid new : List (List ℕ)) (fault : BeginFault) → mid ≡ old ++ g ∷ [] → (fault ≡ Failed → new ≡ mid ++ f ∷ []) → (fault ≡ NoMemory → new ≡ mid) → AreBegun g f s old new
-second_fault g f s old mid new Failed e h k = two_begun g f s old new (h refl ∙ ap (λ (l : List (List ℕ)). l ++ f ∷ []) e)
-second_fault g f s old mid new NoMemory e h k = one_begun g f s old new (k refl ∙ e)
-
-pub third_fault : (g f s : List ℕ) (old mid new : List (List ℕ)) (fault : BeginFault) → mid ≡ (old ++ g ∷ []) ++ f ∷ [] → (fault ≡ Failed → new ≡ mid ++ s ∷ []) → (fault ≡ NoMemory → new ≡ mid) → AreBegun g f s old new
-third_fault g f s old mid new Failed e h k = three_begun g f s old new (h refl ∙ ap (λ (l : List (List ℕ)). l ++ s ∷ []) e)
-third_fault g f s old mid new NoMemory e h k = two_begun g f s old new (k refl ∙ e)
+pub fewer : (a : Answering) (old new : List (List ℕ)) → BeganFewer a old new → BeganInOrder a old new
+fewer a old new h = let l = h.1 in (h.0, omega arith, h.2)
 
 -- what is left of a text whose name is held is all of it
 left_whole : (held : Held) (left : Option (List ℕ)) (text : List ℕ) → Begins held left → held ≡ Text text → left ≡ Some text
@@ -44,24 +49,110 @@ left_whole Untold left text b e = cc
 left_whole Absent left text b e = absurd b
 left_whole (Text bytes) left text b e = let s : bytes ≡ text = cc in b ∙ ap Some s
 
-told_of : (P : List ℕ → Type 0) (held : Held) (left : Option (List ℕ)) (text : List ℕ) → Begins held left → held ≡ Text text → WhereTold left P → P text
-told_of P held left text b e w = subst (λ (o : Option (List ℕ)). WhereTold o P) (left_whole held left text b e) w
+-- a fact of what is left is one of the text of the name
+pub of_held : (P : List ℕ → Type 0) (held : List ℕ → Held) (name : List ℕ) (left : Option (List ℕ)) → Begins (held name) left → WhereTold left P → OfHeld held name P
+of_held P held name left b w text e = subst (λ (o : Option (List ℕ)). WhereTold o P) (left_whole (held name) left text b e) w
 
--- three texts that were begun one after another, and answered
-pub all_answered : (held held_1 held_2 : List ℕ → Held) (g f s : List ℕ) (graph_left fleet_left stream_left : Option (List ℕ)) (roads : Roads) (vehicles : List Vehicle) (old new : Option (List ℕ))
-    → Begins (held g) graph_left → held_1 ≡ held → Begins (held_1 f) fleet_left → held_2 ≡ held → Begins (held_2 s) stream_left
-    → WhereTold graph_left (λ text. graph_of text ≡ Some roads) → WhereTold fleet_left (λ text. fleet_of roads.nodes text ≡ Some vehicles) → WhereTold stream_left (λ text. IsStreamAnswered roads vehicles text old new)
-    → AnsweredWhereTold held g f s old new
-all_answered held held_1 held_2 g f s graph_left fleet_left stream_left roads vehicles old new b e1 b1 e2 b2 w w1 w2 graph fleet stream h h1 h2 =
-    let a : IsStreamAnswered roads vehicles stream old new = told_of (λ text. IsStreamAnswered roads vehicles text old new) (held_2 s) stream_left stream b2 (ap (λ (x : List ℕ → Held). x s) e2 ∙ h2) w2 in
-    record {
-      roads = roads;
-      vehicles = vehicles;
-      rides = a.rides;
-      printed = a.printed;
-      graph_read = told_of (λ text. graph_of text ≡ Some roads) (held g) graph_left graph b h w;
-      fleet_read = told_of (λ text. fleet_of roads.nodes text ≡ Some vehicles) (held_1 f) fleet_left fleet b1 (ap (λ (x : List ℕ → Held). x f) e1 ∙ h1) w1;
-      stream_read = a.stream_read;
-      is_history = a.is_history;
-      took = a.took;
+-- a fault of the graph
+pub graph_fault : (held : List ℕ → Held) (a : Answering) (left : Option (List ℕ)) (fault : GraphFault) (IsBegun : Type 0) (left' : Option (List ℕ)) (old_names new_names : List (List ℕ)) (old new : Option (List ℕ))
+    → Begins (held a.graph) left → (IsRefusal fault → WhereTold left (λ text. graph_of text ≡ Err fault)) → BeganFewer a old_names new_names → new ≡ old
+    → Ends held a (status_of (ending_of_graph fault)) IsBegun left' old_names new_names old new
+graph_fault held a left graph.Fault IsBegun left' old_names new_names old new b r n s = inl (s, λ _. n)
+graph_fault held a left (graph.Form line) IsBegun left' old_names new_names old new b r n s = (λ text e. (graph.Form line, of_held (λ t. graph_of t ≡ Err (graph.Form line)) held a.graph left b (r tt) text e, refl), s)
+graph_fault held a left (graph.Count line said found) IsBegun left' old_names new_names old new b r n s =
+    (λ text e. (graph.Count line said found, of_held (λ t. graph_of t ≡ Err (graph.Count line said found)) held a.graph left b (r tt) text e, refl), s)
+graph_fault held a left (graph.Node line) IsBegun left' old_names new_names old new b r n s = (λ text e. (graph.Node line, of_held (λ t. graph_of t ≡ Err (graph.Node line)) held a.graph left b (r tt) text e, refl), s)
+graph_fault held a left (graph.Weight line) IsBegun left' old_names new_names old new b r n s = (λ text e. (graph.Weight line, of_held (λ t. graph_of t ≡ Err (graph.Weight line)) held a.graph left b (r tt) text e, refl), s)
+graph_fault held a left (graph.Limit line) IsBegun left' old_names new_names old new b r n s = (λ text e. (graph.Limit line, of_held (λ t. graph_of t ≡ Err (graph.Limit line)) held a.graph left b (r tt) text e, refl), s)
+graph_fault held a left graph.NoMemory IsBegun left' old_names new_names old new b r n s = inl s
+
+-- a text couldn't be begun
+pub begin_fault : (held : List ℕ → Held) (a : Answering) (fault : BeginFault) (IsBegun : Type 0) (left : Option (List ℕ)) (old_names new_names : List (List ℕ)) (old new : Option (List ℕ))
+    → (fault ≡ Failed → IsBegun → ⊥) → new ≡ old → Ends held a (status_of (ending_of_begin fault)) IsBegun left old_names new_names old new
+begin_fault held a Failed IsBegun left old_names new_names old new h s = inl (s, λ b. absurd (h refl b))
+begin_fault held a BeginNoMemory IsBegun left old_names new_names old new h s = inl s
+
+-- a fault of the fleet
+pub fleet_fault : (held held_1 : List ℕ → Held) (a : Answering) (g : Roads) (graph_left left : Option (List ℕ)) (fault : FleetFault) (IsBegun : Type 0) (left' : Option (List ℕ)) (old_names new_names : List (List ℕ)) (old new : Option (List ℕ))
+    → Begins (held a.graph) graph_left → WhereTold graph_left (λ text. graph_of text ≡ Ok g) → held_1 ≡ held → Begins (held_1 a.fleet) left
+    → (IsFleetRefusal fault → WhereTold left (λ text. fleet_of g.nodes text ≡ Err fault)) → BeganFewer a old_names new_names → new ≡ old
+    → Ends held a (status_of (ending_of_fleet fault)) IsBegun left' old_names new_names old new
+fleet_fault held held_1 a g graph_left left fault IsBegun left' old_names new_names old new b w h c r n s = on fault r
+  where
+    c' : Begins (held a.fleet) left
+    c' = subst (λ (x : List ℕ → Held). Begins (x a.fleet) left) h c
+
+    bad : (f : FleetFault) (row : ℕ) → WhereTold left (λ text. fleet_of g.nodes text ≡ Err f) → ending_of_fleet f ≡ FleetText row → HasBadFleet held a row
+    bad f row q e = record {
+      roads = g;
+      graph_read = of_held (λ t. graph_of t ≡ Ok g) held a.graph graph_left b w;
+      bad = λ text k. (f, of_held (λ t. fleet_of g.nodes t ≡ Err f) held a.fleet left c' q text k, e);
     }
+
+    on : (f : FleetFault) → (IsFleetRefusal f → WhereTold left (λ text. fleet_of g.nodes text ≡ Err f)) → Ends held a (status_of (ending_of_fleet f)) IsBegun left' old_names new_names old new
+    on fleet.Fault q = inl (s, λ _. n)
+    on fleet.Large q = (bad fleet.Large 0 (q tt) refl, s)
+    on fleet.Header q = (bad fleet.Header 0 (q tt) refl, s)
+    on (fleet.Form row) q = (bad (fleet.Form row) row (q tt) refl, s)
+    on (fleet.Range row) q = (bad (fleet.Range row) row (q tt) refl, s)
+    on (fleet.Double row) q = (bad (fleet.Double row) row (q tt) refl, s)
+    on fleet.NoMemory q = inl s
+
+-- the three texts were begun, and the stream ended so
+pub stream_ends : (held held_1 held_2 : List ℕ → Held) (a : Answering) (g : Roads) (vehicles : List Vehicle) (graph_left fleet_left left : Option (List ℕ)) (result : Result (Unit {0}) Ending) (IsBegun : Type 0) (left' : Option (List ℕ)) (old_names new_names : List (List ℕ)) (old new : Option (List ℕ))
+    → Begins (held a.graph) graph_left → WhereTold graph_left (λ text. graph_of text ≡ Ok g) → held_1 ≡ held → Begins (held_1 a.fleet) fleet_left → WhereTold fleet_left (λ text. fleet_of g.nodes text ≡ Ok vehicles)
+    → held_2 ≡ held → Begins (held_2 a.stream) left → Streamed g a.rates vehicles (WhereTold left) result left' old new → Ends held a (ended_as result) IsBegun left' old_names new_names old new
+stream_ends held held_1 held_2 a g vehicles graph_left fleet_left left result IsBegun left' old_names new_names old new b w h c v k d s = on result s
+  where
+    says : (P : List ℕ → Type 0) → WhereTold left P → OfHeld held a.stream P
+    says P q = of_held P held a.stream left (subst (λ (x : List ℕ → Held). Begins (x a.stream) left) k d) q
+
+    after : {Came : Roads → List Vehicle → Type 0} → Came g vehicles → AfterReading held a Came
+    after came = record {
+      roads = g;
+      vehicles = vehicles;
+      graph_read = of_held (λ t. graph_of t ≡ Ok g) held a.graph graph_left b w;
+      fleet_read = of_held (λ t. fleet_of g.nodes t ≡ Ok vehicles) held a.fleet fleet_left (subst (λ (x : List ℕ → Held). Begins (x a.fleet) fleet_left) h c) v;
+      came = came;
+    }
+
+    at : (end : StreamEnd) → EndsAt g a.rates vehicles end (WhereTold left) old new → EndsAt g a.rates vehicles end (OfHeld held a.stream) old new
+    at end e = record { rides = e.rides; printed = e.printed; said = says (λ text. rides_of g.nodes text ≡ record { rides = e.rides; ends = end }) e.said; is_history = e.is_history; took = e.took }
+
+    early : (Took : List ℕ → Type 0) → EndsEarly g a.rates vehicles (WhereTold left) Took → EndsEarly g a.rates vehicles (OfHeld held a.stream) Took
+    early Took e = record { rides = e.rides; printed = e.printed; said = says _ e.said; is_history = e.is_history; took = e.took }
+
+    unread : EndsUnread g a.rates vehicles (WhereTold left) left' old new → EndsUnread g a.rates vehicles (OfHeld held a.stream) left' old new
+    unread e = record { rides = e.rides; printed = e.printed; said = says _ e.said; is_history = e.is_history; took = e.took }
+
+    on : (r : Result (Unit {0}) Ending) → Streamed g a.rates vehicles (WhereTold left) r left' old new → Ends held a (ended_as r) IsBegun left' old_names new_names old new
+    on (Ok done) e = after (at _ e)
+    on (Err NotYet) e = after (at _ e)
+    on (Err (GraphText line)) e = absurd e
+    on (Err (FleetText row)) e = absurd e
+    on (Err (StreamText line)) e = after (at _ e)
+    on (Err ReadFault) e = inr (after (unread e))
+    on (Err WriteFault) e = after (early _ e)
+    on (Err NoMemory) e = inr (after (early _ e))
+
+-- the names after a fault of the second and the third begin
+pub second_names : (a : Answering) (old mid new : List (List ℕ)) (fault : BeginFault) → mid ≡ old ++ a.graph ∷ [] → (fault ≡ Failed → new ≡ mid ++ a.fleet ∷ []) → (fault ≡ BeginNoMemory → new ≡ mid) → BeganInOrder a old new
+second_names a old mid new Failed e h k = fewer a old new (two_begun a old new (h refl ∙ ap (λ (l : List (List ℕ)). l ++ a.fleet ∷ []) e))
+second_names a old mid new BeginNoMemory e h k = fewer a old new (one_begun a old new (k refl ∙ e))
+
+pub third_names : (a : Answering) (old mid new : List (List ℕ)) (fault : BeginFault) → mid ≡ (old ++ a.graph ∷ []) ++ a.fleet ∷ [] → (fault ≡ Failed → new ≡ mid ++ a.stream ∷ []) → (fault ≡ BeginNoMemory → new ≡ mid) → BeganInOrder a old new
+third_names a old mid new Failed e h k = three_begun a old new (h refl ∙ ap (λ (l : List (List ℕ)). l ++ a.stream ∷ []) e)
+third_names a old mid new BeginNoMemory e h k = fewer a old new (two_begun a old new (k refl ∙ e))
+
+-- a run's names and parameters are those of its task
+pub same_run : (a b : Answering) (t : Task) → Answer a ≡ t → t ≡ Answer b → b ≡ a
+same_run a b t e f = let h : Answer a ≡ Answer b = e ∙ f in cc
+
+pub is_read_fault : (e : Ending) → status_of e ≡ status.ReadFault → e ≡ ReadFault
+is_read_fault NotYet h = cc
+is_read_fault (GraphText line) h = cc
+is_read_fault (FleetText row) h = cc
+is_read_fault (StreamText line) h = cc
+is_read_fault ReadFault h = refl
+is_read_fault WriteFault h = cc
+is_read_fault NoMemory h = cc

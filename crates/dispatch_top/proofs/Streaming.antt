@@ -1,295 +1,77 @@
-use Rattle.std.proofs.Common.{◌≡◌, ℕ, ◌+◌, ◌*◌, ◌<◌, ◌≤◌, ◌^◌, List, [], ◌∷◌, ◌++◌, Bool, true, false, Option, Some, None, refl, sym, ap, subst, ◌∙◌, arith, append_assoc, append-nil, map, inl, inr, ◌⊎◌, ◌-◌}
-use Rattle.std.specs.Prelude.{cond, not, nat_lt, nat_le, ◌==◌, ◌||◌, ◌&&◌, is_some, find, filter, slice_get, slice_set, Ok}
+use Rattle.std.proofs.Common.{◌≡◌, ℕ, suc, length-append, ◌+◌, ◌*◌, ◌<◌, ◌≤◌, ◌^◌, List, [], ◌∷◌, ◌++◌, Bool, true, false, cond, Option, Some, None, Result, Ok, Err, refl, sym, ap, subst, ◌∙◌, arith, append_assoc, append-nil, map, inl, inr, ◌⊎◌, position, length, take}
+use Rattle.std.specs.Prelude.{IsErr, IsErrAnd, is_some, not, nat_le, ◌==◌, ◌||◌, ◌&&◌}
 use Rattle.std.specs.BTreeMap.{is_at}
 use Rattle.std.specs.BTreeSet.{BTreeSet, contains}
 use Rattle.std.specs.List.{list_any}
 use Rattle.std.specs.Ordering.{nat_cmp}
-use Rattle.std.proofs.lemmas.Bool.{eq-eqb, ne_eqb, cases_eq, cond-true, and_from, or_from, le-leb, le-ltb, not_from_false}
-use Rattle.std.proofs.lemmas.Option.{same_Some}
+use Rattle.std.proofs.lemmas.Bool.{eq-eqb, ne_eqb, cases_eq, cond-true, cond-false}
+use Rattle.std.proofs.lemmas.Bool.Decides.{nat_tests}
 use Rattle.std.proofs.lemmas.List.Folds.{list_any-append}
-use Rattle.ride_base.specs.Outside.{Takes}
-use Rattle.ride_base.specs.Pieces.{Piece}
+use Rattle.ride_base.specs.Outside.{Takes, TakesFront}
+use Rattle.ride_base.specs.Pieces.{Piece, Whole, TooLong, TooLarge, pieces, after_line, is_line_end, is_ended, ended_lines}
 use Rattle.ride_base.specs.Reader.{Reader}
+use Rattle.ride_base.specs.Reading.{Tells, unread}
+use Rattle.ride_base.specs.Told.{WhereTold}
 use Rattle.ride_base.specs.declared.lines.Line.{Line}
-use Rattle.ride_base.specs.declared.numbers.RequestNo.{RequestNo}
+use Rattle.ride_base.specs.declared.lines.LineFault.{LineFault}
+use Rattle.ride_base.specs.declared.lines.LineFault.TheVariants.{Fault, Long, Large, NoMemory as LineNoMemory}
+use Rattle.ride_base.proofs.Cutting.{after_last_line}
 use Rattle.road_graph.specs.Roads.{Roads, is_node}
 use Rattle.stop_schedule.specs.declared.request.Request.{Request}
 use Rattle.stop_schedule.specs.declared.vehicle.Vehicle.{Vehicle}
-use Rattle.stop_schedule.specs.Fleets.{Car, Cars}
-use Rattle.stop_schedule.specs.Rates.{usual}
-use Rattle.insertion_cost.specs.declared.decision.Decision.{Decision}
-use Rattle.insertion_cost.specs.declared.decision.Decision.TheVariants.{Assigned as IsAssigned, Nobody}
-use Rattle.board_core.specs.declared.entry.Submitted.TheVariants.{Accepted, Refused}
+use Rattle.stop_schedule.specs.Fleets.{Cars}
+use Rattle.stop_schedule.specs.Rates.{Rates}
+use Rattle.input_tables.specs.Refusals.{AreVehicles}
+use Rattle.input_tables.specs.declared.faults.StreamFault.{StreamFault}
+use Rattle.input_tables.specs.declared.lines.StreamLine.{StreamLine}
+use Rattle.input_tables.specs.declared.lines.StreamLine.TheVariants.{Ride, Move, Nothing}
+use Rattle.input_tables.specs.Streams.{stream_line_of}
 use Rattle.board_core.specs.declared.entry.Entry.{Entry}
-use Rattle.board_core.specs.declared.entry.Entry.TheVariants.{Submit, Claim, Back, Commit, Advance, Shut}
-use Rattle.board_core.specs.declared.entry.Reason.TheVariants.{Place, Riders, Moment, Repeated}
-use Rattle.board_core.specs.Boards.{Board, Answer, Waiting, IsFleet, opening_board, is_number, waiting_of, without, with_next_version}
-use Rattle.board_core.specs.Histories.{Legal, Asked, Ride, Move, asked_in, AreAnsweredAtOnce}
-use Rattle.board_core.specs.Steps.{Step, refusal, answered, taken_on, with_car}
-use Rattle.board_core.proofs.Promising.{law}
-use Rattle.journal_text.specs.Groups.{group, journal_of}
-use Rattle.dispatch_top.specs.Ahead.{GivesLine, AreVehicles, ahead}
-use Rattle.dispatch_top.specs.Deciding.{Decides}
-use Rattle.dispatch_top.specs.Forms.{Rides, rides_in, rides_after, ride_in, request_in, as_ride, is_ride, stood_before, rides_of, largest_text}
+use Rattle.journal_text.specs.Groups.{journal_of}
+use Rattle.dispatch_top.specs.declared.ending.Ending.{Ending}
+use Rattle.dispatch_top.specs.declared.ending.Ending.TheVariants.{NotYet, GraphText, FleetText, StreamText, ReadFault, WriteFault, NoMemory}
 use Rattle.dispatch_top.specs.Opening.{opening_fleet}
-use Rattle.dispatch_top.specs.Runs.{IsHistoryOf}
-use Rattle.dispatch_top.specs.Streams.{counted, HaveLeastWalks, IsRideAnswered, IsStreamAnswered}
-use Rattle.dispatch_top.specs.Told.{WhereTold}
+use Rattle.dispatch_top.specs.Runs.{EndsAt, EndsEarly}
+use Rattle.dispatch_top.specs.Streaming.{AreMore, HaveLeastWalks, IsFit, LineAnswer, LineGiven, RideAnswer, Streamed, accepted_by, asked_by, ending_of_line, ride_group}
+use Rattle.dispatch_top.specs.Streams.{Rides, AtEnd, AtLater, AtBad, StreamEnd, rides_in, rides_of, from_line, onto_rides, no_more, is_accepted, stood_before, largest_text}
+use Rattle.dispatch_top.proofs.Fronts.{IsFrontOf, nothing_read, rides_left, front_more, lines_read, onto, all_ended}
+use Rattle.dispatch_top.proofs.Histories.{AreAnswered, one_more, ride_more, version_more, none_yet, took_nothing, takes_both, walks_least, is_history, with_ride}
 
--- an open board on which nothing waits
-abbrev pub standing : Roads → Cars → List Answer → Board
-standing g fleet answers = record { nodes = g.nodes; fleet = fleet; closed = false; waiting = []; answers = answers }
+-- what was read of a stream that is told, and what is unread
+abbrev pub IsPart : ℕ → List Request → List ℕ → Option (List ℕ) → (number room : ℕ) → Type 0
+IsPart nodes rides text None number room = ⊥
+IsPart nodes rides text (Some rest) number room = IsFrontOf nodes rides text rest number room
 
--- These rides were answered at once by a legal history, its lines were taken, and it left this fleet.
-pub record AreAnswered (g : Roads) (vehicles : List Vehicle) (rides : List Request) (fleet : Cars) (old new : Option (List ℕ)) : Type 0 where
-  pub history : List Entry
-  pub answers : List Answer
-  pub legal : Legal g (opening_board g.nodes usual vehicles) history (standing g fleet answers)
-  pub numbers : map (λ (a : Answer). a.number.0) answers ≡ map (λ (r : Request). r.no.0) rides
-  pub clock : fleet.clock ≡ 0
-  pub rides_asked : asked_in history ≡ map Ride rides
-  pub at_once : AreAnsweredAtOnce history
-  pub took : Takes old new (journal_of history)
-
-legal_more : (g : Roads) (first : Board) (a b : List Entry) (mid last : Board) → Legal g first a mid → Legal g mid b last → Legal g first (a ++ b) last
-legal_more g first [] b mid last h k = subst (λ (x : Board). Legal g x b last) h k
-legal_more g first (e ∷ a) b mid last h k = (h.0, h.1, legal_more g h.0 a b mid last h.2 k)
-
-asked_more : (a b : List Entry) → asked_in (a ++ b) ≡ asked_in a ++ asked_in b
-asked_more [] b = refl
-asked_more (Submit r s ∷ a) b = ap (λ (l : List Asked). Ride r ∷ l) (asked_more a b)
-asked_more (Claim n desk ∷ a) b = asked_more a b
-asked_more (Back n ∷ a) b = asked_more a b
-asked_more (Commit n d ∷ a) b = asked_more a b
-asked_more (Advance now s ∷ a) b = ap (λ (l : List Asked). Move now ∷ l) (asked_more a b)
-asked_more (Shut ∷ a) b = asked_more a b
-
-at_once_more : (a b : List Entry) → AreAnsweredAtOnce a → AreAnsweredAtOnce b → AreAnsweredAtOnce (a ++ b)
-at_once_more [] b h k = k
-at_once_more (Submit r Accepted ∷ Commit n d ∷ a) b h k = (h.0, at_once_more a b h.1 k)
-at_once_more (Submit r Accepted ∷ []) b h k = absurd h
-at_once_more (Submit r Accepted ∷ Submit s t ∷ a) b h k = absurd h
-at_once_more (Submit r Accepted ∷ Claim n desk ∷ a) b h k = absurd h
-at_once_more (Submit r Accepted ∷ Back n ∷ a) b h k = absurd h
-at_once_more (Submit r Accepted ∷ Advance now s ∷ a) b h k = absurd h
-at_once_more (Submit r Accepted ∷ Shut ∷ a) b h k = absurd h
-at_once_more (Submit r (Refused reason) ∷ a) b h k = at_once_more a b h k
-at_once_more (Advance now s ∷ a) b h k = at_once_more a b h k
-at_once_more (Claim n desk ∷ a) b h k = absurd h
-at_once_more (Back n ∷ a) b h k = absurd h
-at_once_more (Commit n d ∷ a) b h k = absurd h
-at_once_more (Shut ∷ a) b h k = absurd h
-
-journal_more : (a b : List Entry) → journal_of (a ++ b) ≡ journal_of a ++ journal_of b
-journal_more [] b = refl
-journal_more (e ∷ a) b = ap (λ (l : List ℕ). group e ++ l) (journal_more a b) ∙ sym (append_assoc (group e) (journal_of a) (journal_of b))
-
-takes_both : (a b c : Option (List ℕ)) (xs ys : List ℕ) → Takes a b xs → Takes b c ys → Takes a c (xs ++ ys)
-takes_both None None None xs ys h k = tt
-takes_both None None (Some c) xs ys h k = absurd k
-takes_both None (Some b) c xs ys h k = absurd h
-takes_both (Some a) None c xs ys h k = absurd h
-takes_both (Some a) (Some b) None xs ys h k = absurd k
-takes_both (Some a) (Some b) (Some c) xs ys h k = k ∙ ap (λ (l : List ℕ). l ++ ys) h ∙ append_assoc a xs ys
-
-map_more : {X Y : Type 0} (f : X → Y) (a b : List X) → map f (a ++ b) ≡ map f a ++ map f b
-map_more f [] b = refl
-map_more {Y = Y} f (x ∷ a) b = ap (λ (l : List Y). f x ∷ l) (map_more f a b)
-
--- a number is answered where it stands among the numbers
-answered_any : (n : RequestNo) (answers : List Answer) → is_some (find (λ (a : Answer). is_number a.number n) answers) ≡ list_any (λ k. k == n.0) (map (λ (a : Answer). a.number.0) answers)
-answered_any n [] = refl
-answered_any n (a ∷ answers) = first (is_number a.number n) (find (λ (a : Answer). is_number a.number n) answers) ∙ ap (λ (b : Bool). is_number a.number n || b) (answered_any n answers)
-  where
-    first : (b : Bool) (rest : Option Answer) → is_some (cond b (Some a) rest) ≡ (b || is_some rest)
-    first true rest = refl
-    first false rest = refl
-
-rides_any : (n : ℕ) (rides : List Request) → list_any (λ k. k == n) (map (λ (r : Request). r.no.0) rides) ≡ list_any (λ (b : Request). b.no.0 == n) rides
-rides_any n [] = refl
-rides_any n (r ∷ rides) = ap (λ (b : Bool). (r.no.0 == n) || b) (rides_any n rides)
-
--- a ride that an open board accepts
-pub record IsFit (nodes : ℕ) (r : Request) : Type 0 where
-  pub pickup : is_node nodes r.pickup ≡ true
-  pub dropoff : is_node nodes r.dropoff ≡ true
-  pub some_rider : 1 ≤ r.riders
-  pub few_riders : r.riders ≤ 16
-  pub moment : r.moment ≤ 2 ^ 40
-
--- a fit ride of a new number is refused by no open board at the clock 0
-not_refused : (g : Roads) (fleet : Cars) (answers : List Answer) (r : Request) → IsFit g.nodes r → fleet.clock ≡ 0
-    → is_some (find (λ (a : Answer). is_number a.number r.no) answers) ≡ false → refusal (standing g fleet answers) r ≡ None
-not_refused g fleet answers r f c n =
-    let place : not (is_node g.nodes r.pickup && is_node g.nodes r.dropoff) ≡ false = ap not (and_from (is_node g.nodes r.pickup) (is_node g.nodes r.dropoff) f.pickup f.dropoff) in
-    let riders : not (nat_le 1 r.riders && nat_le r.riders 16) ≡ false = ap not (and_from (nat_le 1 r.riders) (nat_le r.riders 16) (le-leb 1 r.riders f.some_rider) (le-leb r.riders 16 f.few_riders)) in
-    let behind : nat_lt r.moment fleet.clock ≡ false = le-ltb r.moment fleet.clock (omega (arith, c)) in
-    let late : nat_lt (2 ^ 40) r.moment ≡ false = le-ltb (2 ^ 40) r.moment f.moment in
-    on (not (is_node g.nodes r.pickup && is_node g.nodes r.dropoff)) (not (nat_le 1 r.riders && nat_le r.riders 16)) (nat_lt r.moment fleet.clock || nat_lt (2 ^ 40) r.moment) (is_some (find (λ (a : Answer). is_number a.number r.no) answers))
-    place riders (or_from (nat_lt r.moment fleet.clock) (nat_lt (2 ^ 40) r.moment) behind late) n
-  where
-    on : (p q m n : Bool) → p ≡ false → q ≡ false → m ≡ false → n ≡ false → cond p (Some Place) (cond q (Some Riders) (cond m (Some Moment) (cond n (Some Repeated) None))) ≡ None
-    on true q m n a b c d = cc
-    on false true m n a b c d = cc
-    on false false true n a b c d = cc
-    on false false false true a b c d = cc
-    on false false false false a b c d = refl
-
--- the one ride that waits, found by its number, and none without it
-found : (r : Request) → find (λ (w : Waiting). is_number w.request.no r.no) (record { request = r; holder = None } ∷ []) ≡ Some (record { request = r; holder = None })
-found r = cond-true (r.no.0 == r.no.0) (Some (record { request = r; holder = None })) None (eq-eqb r.no.0 r.no.0 refl)
-
-gone : (r : Request) → without r.no (record { request = r; holder = None } ∷ []) ≡ []
-gone r = on (r.no.0 == r.no.0) (eq-eqb r.no.0 r.no.0 refl)
-  where
-    on : (b : Bool) → b ≡ true → cond {A = List Waiting} (not b) (record { request = r; holder = None } ∷ []) [] ≡ []
-    on true h = refl
-    on false h = cc
-
--- the board on which one ride waits
-abbrev waiting_board : Roads → Cars → List Answer → Request → Board
-waiting_board g fleet answers r = record { nodes = g.nodes; fleet = counted fleet; closed = false; waiting = record { request = r; holder = None } ∷ []; answers = answers }
-
--- the second step of a ride
-committed : (g : Roads) (fleet next : Cars) (answers : List Answer) (r : Request) (d : Decision) → Decides g (counted fleet) r d next
-    → Step g (waiting_board g fleet answers r) (Commit r.no d) (standing g next (answers ++ record { number = r.no; decision = d } ∷ []))
-committed g fleet next answers r (IsAssigned a) h = record {
-  waits = record { request = r; holder = None };
-  direct = h.direct;
-  car = h.car;
-  waiting = found r;
-  best = h.best;
-  direct_way = h.direct_way;
-  stands = h.stands;
-  walks = h.walks;
-  leads_to = ap (λ (c : Cars). standing g c (answers ++ record { number = r.no; decision = IsAssigned a } ∷ [])) h.leads_to
-      ∙ ap (λ (ws : List Waiting). with_car (record (answered (waiting_board g fleet answers r) r.no (IsAssigned a)) { waiting = ws }) a.offer.place (taken_on (waiting_board g fleet answers r) h.car r h.direct a)) (sym (gone r));
-}
-committed g fleet next answers r Nobody h = record {
-  waits = record { request = r; holder = None };
-  waiting = found r;
-  none = h.0;
-  leads_to = ap (λ (c : Cars). standing g c (answers ++ record { number = r.no; decision = Nobody } ∷ [])) h.1
-      ∙ ap (λ (ws : List Waiting). record (answered (waiting_board g fleet answers r) r.no Nobody) { waiting = ws }) (sym (gone r));
-}
-
-clock_stays : (g : Roads) (fleet next : Cars) (r : Request) (d : Decision) → Decides g (counted fleet) r d next → next.clock ≡ fleet.clock
-clock_stays g fleet next r (IsAssigned a) h = ap (λ (c : Cars). c.clock) h.leads_to
-clock_stays g fleet next r Nobody h = ap (λ (c : Cars). c.clock) h.1
-
--- each ride counts two entries
-pub version_more : (g : Roads) (fleet next : Cars) (r : Request) (d : Decision) → Decides g (counted fleet) r d next → next.version ≡ fleet.version + 2
-version_more g fleet next r (IsAssigned a) h = ap (λ (c : Cars). c.version) h.leads_to ∙ omega arith
-version_more g fleet next r Nobody h = ap (λ (c : Cars). c.version) h.1 ∙ omega arith
-
--- one ride more
-pub one_more : (g : Roads) (vehicles : List Vehicle) (rides : List Request) (fleet next : Cars) (r : Request) (old mid new : Option (List ℕ))
-    → AreAnswered g vehicles rides fleet old mid → IsFit g.nodes r → stood_before rides r ≡ false → IsRideAnswered g fleet r next mid new
-    → AreAnswered g vehicles (rides ++ r ∷ []) next old new
-one_more g vehicles rides fleet next r old mid new h f n a =
-    let unanswered : is_some (find (λ (x : Answer). is_number x.number r.no) h.answers) ≡ false =
-    answered_any r.no h.answers ∙ ap (list_any (λ k. k == r.no.0)) h.numbers ∙ rides_any r.no.0 rides ∙ n in
-    let group_of_two : group (Submit r Accepted) ++ group (Commit r.no a.decision) ≡ journal_of (Submit r Accepted ∷ Commit r.no a.decision ∷ []) =
-    ap (λ (l : List ℕ). group (Submit r Accepted) ++ l) (sym (append-nil (group (Commit r.no a.decision)))) in
-    record {
-      history = h.history ++ Submit r Accepted ∷ Commit r.no a.decision ∷ [];
-      answers = h.answers ++ record { number = r.no; decision = a.decision } ∷ [];
-      legal = legal_more g (opening_board g.nodes usual vehicles) h.history (Submit r Accepted ∷ Commit r.no a.decision ∷ []) (standing g fleet h.answers)
-          (standing g next (h.answers ++ record { number = r.no; decision = a.decision } ∷ [])) h.legal (
-            waiting_board g fleet h.answers r,
-            (not_refused g fleet h.answers r f h.clock unanswered, refl),
-            (standing g next (h.answers ++ record { number = r.no; decision = a.decision } ∷ []), committed g fleet next h.answers r a.decision a.decides, refl),
-          );
-      numbers = map_more (λ (x : Answer). x.number.0) h.answers (record { number = r.no; decision = a.decision } ∷ []) ∙ ap (λ (l : List ℕ). l ++ r.no.0 ∷ []) h.numbers
-          ∙ sym (map_more (λ (x : Request). x.no.0) rides (r ∷ []));
-      clock = clock_stays g fleet next r a.decision a.decides ∙ h.clock;
-      rides_asked = asked_more h.history (Submit r Accepted ∷ Commit r.no a.decision ∷ []) ∙ ap (λ (l : List Asked). l ++ Ride r ∷ []) h.rides_asked ∙ sym (map_more Ride rides (r ∷ []));
-      at_once = at_once_more h.history (Submit r Accepted ∷ Commit r.no a.decision ∷ []) h.at_once (refl, tt);
-      took = subst (Takes old new) (ap (λ (l : List ℕ). journal_of h.history ++ l) group_of_two ∙ sym (journal_more h.history (Submit r Accepted ∷ Commit r.no a.decision ∷ [])))
-          (takes_both old mid new (journal_of h.history) (group (Submit r Accepted) ++ group (Commit r.no a.decision)) h.took a.takes);
-    }
-
-pub is_fleet : (nodes : ℕ) (vehicles : List Vehicle) → AreVehicles nodes vehicles → IsFleet nodes vehicles
-is_fleet nodes vehicles h = record { few = h.few; each = h.each; rising = h.rising }
-
--- before any ride
-pub none_yet : (g : Roads) (vehicles : List Vehicle) (taken : Option (List ℕ)) → AreAnswered g vehicles [] (opening_fleet usual vehicles) taken taken
-none_yet g vehicles taken = record { history = []; answers = []; legal = refl; numbers = refl; clock = refl; rides_asked = refl; at_once = tt; took = nothing taken }
-  where
-    nothing : (a : Option (List ℕ)) → Takes a a []
-    nothing None = tt
-    nothing (Some a) = sym (append-nil a)
-
--- the schedules have least walks after each history
-pub walks_least : (g : Roads) (vehicles : List Vehicle) (rides : List Request) (fleet : Cars) (old new : Option (List ℕ)) → AreVehicles g.nodes vehicles → AreAnswered g vehicles rides fleet old new
-    → HaveLeastWalks g fleet.cars
-walks_least g vehicles rides fleet old new v h place car e =
-    ((law g g.nodes usual vehicles h.history (standing g fleet h.answers) (is_fleet g.nodes vehicles v) h.legal h.history [] (standing g fleet h.answers) (sym (append-nil h.history)) h.legal).schedules place car e).2
-
--- the rides that are answered, and those that the pieces ahead say
-abbrev pub onto : List Request → Rides → Rides
-onto done rest = record { rides = done ++ rest.rides; whole = rest.whole }
-
-abbrev pub rides_said : ℕ → List Request → Option (List Piece) → Option Rides
-rides_said nodes done None = None
-rides_said nodes done (Some pieces) = Some (onto done (rides_in nodes done pieces))
-
--- a line that is a ride goes from the pieces ahead to the rides that are answered
-pub said_more : (nodes : ℕ) (done : List Request) (r : Request) (line : Line) (before after : Option (List Piece)) → GivesLine before (Ok (Some line)) after → ride_in nodes done line.bytes ≡ Some r
-    → rides_said nodes (done ++ r ∷ []) after ≡ rides_said nodes done before
-said_more nodes done r line None None g e = refl
-said_more nodes done r line None (Some after) g e = cc
-said_more nodes done r line (Some before) None g e = absurd g
-said_more nodes done r line (Some before) (Some after) g e =
-    ap Some (sym (ap (λ (pieces : List Piece). onto done (rides_in nodes done pieces)) g
-    ∙ ap (λ (o : Option Request). onto done (rides_after o (λ r. rides_in nodes (done ++ r ∷ []) after))) e
-    ∙ ap (λ (l : List Request). record { rides = l; whole = (rides_in nodes (done ++ r ∷ []) after).whole }) (sym (append_assoc done (r ∷ []) (rides_in nodes (done ++ r ∷ []) after).rides))))
-
--- a request in the form that is fit and new is a ride
-pub is_a_ride : (nodes : ℕ) (done : List Request) (r : Request) (line : List ℕ) → request_in line ≡ Some r → IsFit nodes r → stood_before done r ≡ false → ride_in nodes done line ≡ Some r
-is_a_ride nodes done r line e f n =
-    ap (as_ride nodes done) e ∙ cond-true (is_ride nodes done r) (Some r) None
-    (and_from _ _ (and_from _ _ (and_from _ _ (and_from (is_node nodes r.pickup) (is_node nodes r.dropoff) f.pickup f.dropoff) (le-leb 1 r.riders f.some_rider)) (le-leb r.riders 16 f.few_riders)) (not_from_false (stood_before done r) n))
-
--- at the end of the text all its rides are answered
-pub stream_done : (g : Roads) (vehicles : List Vehicle) (rides : List Request) (fleet : Cars) (text : List ℕ) (old new : Option (List ℕ)) → AreVehicles g.nodes vehicles
-    → AreAnswered g vehicles rides fleet old new → rides_said g.nodes rides (Some []) ≡ Some (rides_of g.nodes text) → IsStreamAnswered g vehicles text old new
-stream_done g vehicles rides fleet text old new v h s = record {
-  rides = rides;
-  printed = journal_of h.history;
-  stream_read = sym (same_Some _ _ s) ∙ ap (λ (l : List Request). record { rides = l; whole = true }) (append-nil rides);
-  is_history = record {
-    history = h.history;
-    last = standing g fleet h.answers;
-    legal = h.legal;
-    rides_asked = h.rides_asked;
-    at_once = h.at_once;
-    kept = law g g.nodes usual vehicles h.history (standing g fleet h.answers) (is_fleet g.nodes vehicles v) h.legal;
-    rendered = refl;
-  };
-  took = h.took;
-}
-
--- A stream on its way: some rides are answered, their numbers are kept, and the pieces ahead say the others. Each line takes room,
--- so the entries stay few.
-pub record IsOnItsWay (g : Roads) (vehicles : List Vehicle) (numbers : BTreeSet ℕ) (fleet : Cars) (all ahead : Option (List Piece)) (room : ℕ) (old new : Option (List ℕ)) : Type 0 where
+-- A stream on its way: some rides are answered, their numbers are kept, and the lines that were read go to these rides. Each line
+-- takes room, so the entries stay few.
+pub record IsOnItsWay (g : Roads) (rates : Rates) (vehicles : List Vehicle) (numbers : BTreeSet ℕ) (fleet : Cars) (text rest : Option (List ℕ)) (number room : ℕ) (old new : Option (List ℕ)) : Type 0 where
   pub rides : List Request
-  pub answered : AreAnswered g vehicles rides fleet old new
+  pub history : List Entry
+  pub answered : AreAnswered g rates vehicles rides fleet history
+  pub took : Takes old new (journal_of history)
   pub kept : (n : ℕ) → contains nat_cmp numbers n ≡ list_any (λ (b : Request). b.no.0 == n) rides
-  pub said : rides_said g.nodes rides ahead ≡ rides_said g.nodes [] all
   pub few : fleet.version + 2 * room ≤ 2 ^ 31
+  pub few_lines : number + room ≤ 2 ^ 30
+  pub part : WhereTold text (λ told. IsPart g.nodes rides told rest number room)
 
 -- at the start
-pub first_way : (g : Roads) (vehicles : List Vehicle) (numbers : BTreeSet ℕ) (fleet : Cars) (reader : Reader) (text old : Option (List ℕ))
-    → fleet ≡ opening_fleet usual vehicles → numbers.keys ≡ [] → reader ≡ record { pending = []; given = 0; room = largest_text; stopped = None }
-    → IsOnItsWay g vehicles numbers fleet (ahead (record { pending = []; given = 0; room = largest_text; stopped = None }) text) (ahead reader text) reader.room old old
-first_way g vehicles numbers fleet reader text old e n l = record {
+pub first_way : (g : Roads) (rates : Rates) (vehicles : List Vehicle) (numbers : BTreeSet ℕ) (fleet : Cars) (reader : Reader) (text old : Option (List ℕ))
+    → fleet ≡ opening_fleet rates vehicles → numbers.keys ≡ [] → reader ≡ record { pending = []; given = 0; room = largest_text; stopped = None }
+    → IsOnItsWay g rates vehicles numbers fleet text (unread reader text) 0 reader.room old old
+first_way g rates vehicles numbers fleet reader text old e n l = record {
   rides = [];
-  answered = subst (λ (c : Cars). AreAnswered g vehicles [] c old old) (sym e) (none_yet g vehicles old);
+  history = [];
+  answered = subst (λ (c : Cars). AreAnswered g rates vehicles [] c []) (sym e) (none_yet g rates vehicles);
+  took = took_nothing old;
   kept = λ k. ap (list_any (is_at (nat_cmp k))) n;
-  said = ap (λ (r : Reader). rides_said g.nodes [] (ahead r text)) l;
   few = omega (arith, ap (λ (c : Cars). c.version) e, ap (λ (r : Reader). r.room) l);
+  few_lines = omega (arith, ap (λ (r : Reader). r.room) l);
+  part = subst (λ (r : Reader). WhereTold text (λ told. IsPart g.nodes [] told (unread r text) 0 r.room)) (sym l) (at_first text);
 }
+  where
+    at_first : (t : Option (List ℕ)) → WhereTold t (λ told. IsPart g.nodes [] told (unread (record { pending = []; given = 0; room = largest_text; stopped = None }) t) 0 largest_text)
+    at_first None = tt
+    at_first (Some t) = nothing_read g.nodes t
 
 -- a number is first or last in a test
 swapped : (k n : ℕ) (x : Bool) → ((k == n) || x) ≡ (x || (n == k))
@@ -307,35 +89,470 @@ swapped k n x = on (cases_eq k n)
     on (inl h) = rw (eq-eqb k n h, eq-eqb n k (sym h)) (whole x)
     on (inr h) = rw (ne_eqb k n h, ne_eqb n k (λ e. h (sym e))) (same x)
 
--- a line more is answered
-pub further : (g : Roads) (vehicles : List Vehicle) (numbers more : BTreeSet ℕ) (fleet next : Cars) (all before after : Option (List Piece)) (room left : ℕ) (old mid new : Option (List ℕ)) (line : Line) (r : Request)
-    → IsOnItsWay g vehicles numbers fleet all before room old mid → GivesLine before (Ok (Some line)) after → left < room → request_in line.bytes ≡ Some r → IsFit g.nodes r
-    → contains nat_cmp numbers r.no.0 ≡ false → ((n : ℕ) → contains nat_cmp more n ≡ ((n == r.no.0) || contains nat_cmp numbers n)) → IsRideAnswered g fleet r next mid new
-    → IsOnItsWay g vehicles more next all after left old new
-further g vehicles numbers more fleet next all before after room left old mid new line r h l s q f n m a =
-    let fresh : stood_before h.rides r ≡ false = sym (h.kept r.no.0) ∙ n in
-    let v : next.version ≡ fleet.version + 2 = version_more g fleet next r a.decision a.decides in
-    let w : fleet.version + 2 * room ≤ 2 ^ 31 = h.few in
-    record {
-      rides = h.rides ++ r ∷ [];
-      answered = one_more g vehicles h.rides fleet next r old mid new h.answered f fresh a;
-      kept = λ k. m k ∙ swapped k r.no.0 (contains nat_cmp numbers k) ∙ ap (λ (b : Bool). b || (r.no.0 == k)) (h.kept k)
-          ∙ ap (λ (b : Bool). list_any (λ (x : Request). x.no.0 == k) h.rides || b) (sym (or_false (r.no.0 == k)))
-          ∙ sym (list_any-append (λ (x : Request). x.no.0 == k) h.rides (r ∷ []));
-      said = said_more g.nodes h.rides r line before after l (is_a_ride g.nodes h.rides r line.bytes q f fresh) ∙ h.said;
-      few = omega arith;
-    }
+or_false : (b : Bool) → (b || false) ≡ b
+or_false true = refl
+or_false false = refl
+
+kept_more : (numbers more : BTreeSet ℕ) (rides : List Request) (r : Request) → ((n : ℕ) → contains nat_cmp numbers n ≡ list_any (λ (b : Request). b.no.0 == n) rides) → AreMore numbers r.no.0 more
+    → (k : ℕ) → contains nat_cmp more k ≡ list_any (λ (b : Request). b.no.0 == k) (rides ++ r ∷ [])
+kept_more numbers more rides r kept m k =
+    m k ∙ swapped k r.no.0 (contains nat_cmp numbers k) ∙ ap (λ (b : Bool). b || (r.no.0 == k)) (kept k)
+    ∙ ap (λ (b : Bool). list_any (λ (x : Request). x.no.0 == k) rides || b) (sym (or_false (r.no.0 == k)))
+    ∙ sym (list_any-append (λ (x : Request). x.no.0 == k) rides (r ∷ []))
+
+-- whether a ride is accepted can be told by the numbers that are kept
+accepted_is : (nodes : ℕ) (numbers : BTreeSet ℕ) (rides : List Request) (r : Request) → ((n : ℕ) → contains nat_cmp numbers n ≡ list_any (λ (b : Request). b.no.0 == n) rides) → accepted_by nodes numbers r ≡ is_accepted nodes rides r
+accepted_is nodes numbers rides r kept = ap (λ (b : Bool). is_node nodes r.pickup && is_node nodes r.dropoff && nat_le 1 r.riders && nat_le r.riders 16 && not b) (kept r.no.0)
+
+true_of : (b c : Bool) → (b && c) ≡ true → (b ≡ true) × (c ≡ true)
+true_of true true h = (refl, refl)
+true_of true false h = cc
+true_of false c h = cc
+
+le_of : (a b : ℕ) → nat_le a b ≡ true → a ≤ b
+le_of a b h = grind (arith, nat_tests)
+
+not_of : (b : Bool) → not b ≡ true → b ≡ false
+not_of true h = cc
+not_of false h = refl
+
+-- what a ride that is accepted is
+pub is_fit : (nodes : ℕ) (numbers : BTreeSet ℕ) (r : Request) → accepted_by nodes numbers r ≡ true → r.moment ≤ 2 ^ 40 → IsFit nodes r × (contains nat_cmp numbers r.no.0 ≡ false)
+is_fit nodes numbers r h m =
+    let a = true_of _ _ h in
+    let b = true_of _ _ a.0 in
+    let c = true_of _ _ b.0 in
+    let d = true_of _ _ c.0 in
+    (record { pickup = d.0; dropoff = d.1; some_rider = le_of 1 r.riders c.1; few_riders = le_of r.riders 16 b.1; moment = m }, not_of _ a.1)
+
+pub is_a_node : (nodes : ℕ) (g : Roads) (numbers : BTreeSet ℕ) (r : Request) → accepted_by nodes numbers r ≡ true → nodes ≡ g.nodes → ((1 ≤ r.pickup.0) × (r.pickup.0 ≤ g.nodes)) × ((1 ≤ r.dropoff.0) × (r.dropoff.0 ≤ g.nodes)) × (r.riders ≤ 16)
+is_a_node nodes g numbers r h e =
+    let a = true_of _ _ h in
+    let b = true_of _ _ a.0 in
+    let c = true_of _ _ b.0 in
+    let d = true_of _ _ c.0 in
+    let p = true_of _ _ d.0 in
+    let q = true_of _ _ d.1 in
+    let p0 = le_of 1 r.pickup.0 p.0 in
+    let p1 = le_of r.pickup.0 nodes p.1 in
+    let q0 = le_of 1 r.dropoff.0 q.0 in
+    let q1 = le_of r.dropoff.0 nodes q.1 in
+    ((p0, omega arith), (q0, omega arith), le_of r.riders 16 b.1)
+
+-- The line that is given, where the text is told: the pieces and what is unread go on behind it.
+-- A line that says nothing leaves the rides as they are.
+nothing_said : (nodes : ℕ) (rides : List Request) (n : ℕ) (bytes : List ℕ) (more : List Piece) → stream_line_of bytes ≡ Ok Nothing → rides_in nodes rides n (Whole bytes ∷ more) ≡ rides_in nodes rides (n + 1) more
+nothing_said nodes rides n bytes more e = ap (λ (s : Result StreamLine StreamFault). from_line nodes rides n s (rides_in nodes rides (n + 1) more) (λ r. rides_in nodes (rides ++ r ∷ []) (n + 1) more)) e
+
+ride_said : (nodes : ℕ) (rides : List Request) (n : ℕ) (bytes : List ℕ) (more : List Piece) (r : Request) → stream_line_of bytes ≡ Ok (Ride r) → is_accepted nodes rides r ≡ true
+    → rides_in nodes rides n (Whole bytes ∷ more) ≡ onto_rides r (rides_in nodes (rides ++ r ∷ []) (n + 1) more)
+ride_said nodes rides n bytes more r e a = ap (λ (s : Result StreamLine StreamFault). from_line nodes rides n s (rides_in nodes rides (n + 1) more) (λ r. rides_in nodes (rides ++ r ∷ []) (n + 1) more)) e
+    ∙ cond-true (is_accepted nodes rides r) (onto_rides r (rides_in nodes (rides ++ r ∷ []) (n + 1) more)) (no_more AtLater) a
+
+-- what a line asks for says what it says
+pub record AsksRide (nodes : ℕ) (rides : List Request) (numbers : BTreeSet ℕ) (line : Line) (r : Request) : Type 0 where
+  pub says : stream_line_of line.bytes ≡ Ok (Ride r)
+  pub by_numbers : accepted_by nodes numbers r ≡ true
+  pub accepted : is_accepted nodes rides r ≡ true
+
+some_ride : (b : Bool) (r q : Request) → ◌≡◌ {A = Result (Option Request) Ending} (cond b (Ok (Some r)) (Err NotYet)) (Ok (Some q)) → (b ≡ true) × (r ≡ q)
+some_ride true r q e = (refl, cc)
+some_ride false r q e = cc
+
+asks_ride : (nodes : ℕ) (rides : List Request) (numbers : BTreeSet ℕ) (line : Line) (r : Request) → ((n : ℕ) → contains nat_cmp numbers n ≡ list_any (λ (b : Request). b.no.0 == n) rides)
+    → asked_by nodes numbers line.number (stream_line_of line.bytes) ≡ Ok (Some r) → AsksRide nodes rides numbers line r
+asks_ride nodes rides numbers line r kept e = on (stream_line_of line.bytes) refl e
   where
-    or_false : (b : Bool) → (b || false) ≡ b
-    or_false true = refl
-    or_false false = refl
+    on : (said : Result StreamLine StreamFault) → stream_line_of line.bytes ≡ said → asked_by nodes numbers line.number said ≡ Ok (Some r) → AsksRide nodes rides numbers line r
+    on (Ok (Ride q)) s e =
+        let f = some_ride (accepted_by nodes numbers q) q r e in
+        let a : accepted_by nodes numbers r ≡ true = subst (λ (x : Request). accepted_by nodes numbers x ≡ true) f.1 f.0 in
+        record { says = s ∙ ap (λ (x : Request). Ok (Ride x)) f.1; by_numbers = a; accepted = sym (accepted_is nodes numbers rides r kept) ∙ a }
+    on (Ok (Move now)) s e = cc
+    on (Ok Nothing) s e = cc
+    on (Err fault) s e = cc
+
+no_ride : (b : Bool) (r : Request) → ◌≡◌ {A = Result (Option Request) Ending} (cond b (Ok (Some r)) (Err NotYet)) (Ok None) → ⊥
+no_ride true r e = cc
+no_ride false r e = cc
+
+asks_nothing : (nodes : ℕ) (numbers : BTreeSet ℕ) (line : Line) → asked_by nodes numbers line.number (stream_line_of line.bytes) ≡ Ok None → stream_line_of line.bytes ≡ Ok Nothing
+asks_nothing nodes numbers line e = on (stream_line_of line.bytes) refl e
+  where
+    on : (said : Result StreamLine StreamFault) → stream_line_of line.bytes ≡ said → asked_by nodes numbers line.number said ≡ Ok None → stream_line_of line.bytes ≡ Ok Nothing
+    on (Ok (Ride q)) s e = absurd (no_ride (accepted_by nodes numbers q) q e)
+    on (Ok (Move now)) s e = cc
+    on (Ok Nothing) s e = s
+    on (Err fault) s e = cc
+
+-- where the rides end at a line that ends the run
+abbrev pub end_by : Ending → StreamEnd
+end_by NotYet = AtLater
+end_by (GraphText line) = AtLater
+end_by (FleetText row) = AtLater
+end_by (StreamText line) = AtBad line
+end_by ReadFault = AtLater
+end_by WriteFault = AtLater
+end_by NoMemory = AtLater
+
+-- a line that asks for what ends the run
+pub record AsksEnd (nodes : ℕ) (rides : List Request) (line : Line) (ending : Ending) : Type 0 where
+  pub ends : (more : List Piece) → rides_in nodes rides line.number (Whole line.bytes ∷ more) ≡ no_more (end_by ending)
+  pub which : (ending ≡ NotYet) ⊎ (ending ≡ StreamText line.number)
+
+ends_ride : (b : Bool) (r : Request) (ending : Ending) → ◌≡◌ {A = Result (Option Request) Ending} (cond b (Ok (Some r)) (Err NotYet)) (Err ending) → (b ≡ false) × (ending ≡ NotYet)
+ends_ride true r ending e = cc
+ends_ride false r ending e = (refl, cc)
+
+asks_end : (nodes : ℕ) (rides : List Request) (numbers : BTreeSet ℕ) (line : Line) (ending : Ending) → ((n : ℕ) → contains nat_cmp numbers n ≡ list_any (λ (b : Request). b.no.0 == n) rides)
+    → asked_by nodes numbers line.number (stream_line_of line.bytes) ≡ Err ending → AsksEnd nodes rides line ending
+asks_end nodes rides numbers line ending kept e = on (stream_line_of line.bytes) refl e
+  where
+    by : (said : Result StreamLine StreamFault) → stream_line_of line.bytes ≡ said → (more : List Piece)
+        → rides_in nodes rides line.number (Whole line.bytes ∷ more) ≡ from_line nodes rides line.number said (rides_in nodes rides (line.number + 1) more) (λ r. rides_in nodes (rides ++ r ∷ []) (line.number + 1) more)
+    by said s more = ap (λ (x : Result StreamLine StreamFault). from_line nodes rides line.number x (rides_in nodes rides (line.number + 1) more) (λ r. rides_in nodes (rides ++ r ∷ []) (line.number + 1) more)) s
+
+    on : (said : Result StreamLine StreamFault) → stream_line_of line.bytes ≡ said → asked_by nodes numbers line.number said ≡ Err ending → AsksEnd nodes rides line ending
+    on (Ok (Ride q)) s e =
+        let f = ends_ride (accepted_by nodes numbers q) q ending e in
+        let refused : is_accepted nodes rides q ≡ false = sym (accepted_is nodes numbers rides q kept) ∙ f.0 in
+        record {
+          ends = λ more. by (Ok (Ride q)) s more ∙ cond-false (is_accepted nodes rides q) (onto_rides q (rides_in nodes (rides ++ q ∷ []) (line.number + 1) more)) (no_more AtLater) refused ∙ ap (λ (x : Ending). no_more (end_by x)) (sym f.1);
+          which = inl f.1;
+        }
+    on (Ok (Move now)) s e = let f : NotYet ≡ ending = cc in record { ends = λ more. by (Ok (Move now)) s more ∙ ap (λ (x : Ending). no_more (end_by x)) f; which = inl (sym f) }
+    on (Ok Nothing) s e = cc
+    on (Err fault) s e = let f : StreamText line.number ≡ ending = cc in record { ends = λ more. by (Err fault) s more ∙ ap (λ (x : Ending). no_more (end_by x)) f; which = inr (sym f) }
+
+-- One line more was given.
+pub record IsNext (nodes : ℕ) (rides : List Request) (text : List ℕ) (line : Line) (after : Option (List ℕ)) (number room room' : ℕ) : Type 0 where
+  pub rest : List ℕ
+  pub front : IsFrontOf nodes rides text rest number room
+  pub in_pieces : pieces room rest ≡ Whole line.bytes ∷ pieces room' (after_line rest)
+  pub after_is : after ≡ Some (after_line rest)
+  pub ended_is : line.ended ≡ is_ended rest
+
+is_next : (nodes : ℕ) (rides : List Request) (text : List ℕ) (line : Line) (before after : Option (List ℕ)) (number room room' : ℕ) → IsPart nodes rides text before number room → Tells room before (Ok (Some line)) room' after
+    → IsNext nodes rides text line after number room room'
+is_next nodes rides text line None after number room room' p t = absurd p
+is_next nodes rides text line (Some rest) after number room room' p t = record { rest = rest; front = p; in_pieces = t.0; after_is = t.1; ended_is = t.2 }
+
+-- the rides of the text are those before the line, and those from the line on
+rides_from : (nodes : ℕ) (rides : List Request) (text : List ℕ) (line : Line) (after : Option (List ℕ)) (number room room' : ℕ) (n : IsNext nodes rides text line after number room room')
+    → rides_of nodes text ≡ onto rides (rides_in nodes rides (number + 1) (Whole line.bytes ∷ pieces room' (after_line n.rest)))
+rides_from nodes rides text line after number room room' n = rides_left nodes rides text n.rest number room n.front ∙ ap (λ (l : List Piece). onto rides (rides_in nodes rides (number + 1) l)) n.in_pieces
+
+end_of : (rides : List Request) (end : StreamEnd) → onto rides (no_more end) ≡ record { rides = rides; ends = end }
+end_of rides end = ap (λ (l : List Request). record { rides = l; ends = end }) (append-nil rides)
+
+-- a line that ends the run
+pub ends_at_line : (g : Roads) (rates : Rates) (vehicles : List Vehicle) (numbers : BTreeSet ℕ) (fleet : Cars) (text before after : Option (List ℕ)) (number room room' : ℕ) (old mid new left : Option (List ℕ)) (line : Line) (ending : Ending)
+    → AreVehicles g.nodes vehicles → IsOnItsWay g rates vehicles numbers fleet text before number room old mid → Tells room before (Ok (Some line)) room' after → line.number ≡ number + 1
+    → asked_by g.nodes numbers line.number (stream_line_of line.bytes) ≡ Err ending → new ≡ mid → Streamed g rates vehicles (WhereTold text) (Err ending) left old new
+ends_at_line g rates vehicles numbers fleet text before after number room room' old mid new left line ending v w t c e s = on ending a.which refl
+  where
+    a : AsksEnd g.nodes w.rides line ending
+    a = asks_end g.nodes w.rides numbers line ending w.kept e
+
+    said : (x : Option (List ℕ)) → WhereTold x (λ told. IsPart g.nodes w.rides told before number room) → WhereTold x (λ told. rides_of g.nodes told ≡ record { rides = w.rides; ends = end_by ending })
+    said None p = tt
+    said (Some told) p =
+        let n = is_next g.nodes w.rides told line before after number room room' p t in
+        rides_from g.nodes w.rides told line after number room room' n
+        ∙ ap (λ (k : ℕ). onto w.rides (rides_in g.nodes w.rides k (Whole line.bytes ∷ pieces room' (after_line n.rest)))) (sym c)
+        ∙ ap (onto w.rides) (a.ends (pieces room' (after_line n.rest))) ∙ end_of w.rides (end_by ending)
+
+    at : (end : StreamEnd) → end_by ending ≡ end → EndsAt g rates vehicles end (WhereTold text) old new
+    at end h = record {
+      rides = w.rides;
+      printed = journal_of w.history;
+      said = subst (λ (x : StreamEnd). WhereTold text (λ told. rides_of g.nodes told ≡ record { rides = w.rides; ends = x })) h (said text w.part);
+      is_history = is_history g rates vehicles w.rides fleet w.history v w.answered;
+      took = subst (λ (x : Option (List ℕ)). Takes old x (journal_of w.history)) (sym s) w.took;
+    }
+
+    on : (x : Ending) → (ending ≡ NotYet) ⊎ (ending ≡ StreamText line.number) → ending ≡ x → Streamed g rates vehicles (WhereTold text) (Err x) left old new
+    on NotYet h q = at AtLater (ap end_by q)
+    on (StreamText k) h q = at (AtBad k) (ap end_by q)
+    on (GraphText k) (inl h) q = cc
+    on (GraphText k) (inr h) q = cc
+    on (FleetText k) (inl h) q = cc
+    on (FleetText k) (inr h) q = cc
+    on ReadFault (inl h) q = cc
+    on ReadFault (inr h) q = cc
+    on WriteFault (inl h) q = cc
+    on WriteFault (inr h) q = cc
+    on NoMemory (inl h) q = cc
+    on NoMemory (inr h) q = cc
+
+-- a fault, or no further line
+pub ends_before_line : (g : Roads) (rates : Rates) (vehicles : List Vehicle) (numbers : BTreeSet ℕ) (fleet : Cars) (text : Option (List ℕ)) (reader : Reader) (before left : Option (List ℕ)) (number room : ℕ) (old mid : Option (List ℕ)) (ending : Ending)
+    → AreVehicles g.nodes vehicles → IsOnItsWay g rates vehicles numbers fleet text before number room old mid → LineGiven number room before (Err ending) reader.room (unread reader left) reader.pending
+    → Streamed g rates vehicles (WhereTold text) (Err ending) left old mid
+ends_before_line g rates vehicles numbers fleet text reader before left number room old mid ending v w given = on given.0 given.1 given.2 given.3
+  where
+    P : Option (List ℕ) → Type 0
+    P x = WhereTold x (λ told. IsPart g.nodes w.rides told before number room)
+
+    at : (end : StreamEnd) → WhereTold text (λ told. rides_of g.nodes told ≡ record { rides = w.rides; ends = end }) → EndsAt g rates vehicles end (WhereTold text) old mid
+    at end s = record { rides = w.rides; printed = journal_of w.history; said = s; is_history = is_history g rates vehicles w.rides fleet w.history v w.answered; took = w.took }
+
+    early : WhereTold text (λ told. (more : List Request) × ((rides_of g.nodes told).rides ≡ w.rides ++ more)) → EndsEarly g rates vehicles (WhereTold text) (Takes old mid)
+    early s = record { rides = w.rides; printed = journal_of w.history; said = s; is_history = is_history g rates vehicles w.rides fleet w.history v w.answered; took = w.took }
+
+    stop : (x : Option (List ℕ)) (piece : Piece) (y : Option (List ℕ)) (room' : ℕ) → WhereTold x (λ told. IsPart g.nodes w.rides told y number room) → LineFault
+        → ((rest : List ℕ) → y ≡ Some rest → pieces room rest ≡ piece ∷ []) → ((m : List Piece) → rides_in g.nodes w.rides (number + 1) (piece ∷ m) ≡ no_more (AtBad (number + 1)))
+        → WhereTold x (λ told. rides_of g.nodes told ≡ record { rides = w.rides; ends = AtBad (number + 1) })
+    stop None piece y room' p which h b = tt
+    stop (Some told) piece None room' p which h b = absurd p
+    stop (Some told) piece (Some rest) room' p which h b =
+        rides_left g.nodes w.rides told rest number room p ∙ ap (λ (l : List Piece). onto w.rides (rides_in g.nodes w.rides (number + 1) l)) (h rest refl) ∙ ap (onto w.rides) (b []) ∙ end_of w.rides (AtBad (number + 1))
+
+    some_more : (x : Option (List ℕ)) (y : Option (List ℕ)) → WhereTold x (λ told. IsPart g.nodes w.rides told y number room) → WhereTold x (λ told. (more : List Request) × ((rides_of g.nodes told).rides ≡ w.rides ++ more))
+    some_more None y p = tt
+    some_more (Some told) None p = absurd p
+    some_more (Some told) (Some rest) p = ((rides_in g.nodes w.rides (number + 1) (pieces room rest)).rides, ap (λ (r : Rides). r.rides) (rides_left g.nodes w.rides told rest number room p))
+
+    split : (l : Option (List ℕ)) (told rest : List ℕ) → unread reader l ≡ Some rest → (f : IsFrontOf g.nodes w.rides told rest number room) → position is_line_end reader.pending ≡ None
+        → (read left' : List ℕ) × (l ≡ Some left') × (told ≡ read ++ left') × (rides_in g.nodes [] 1 (map Whole (ended_lines read)) ≡ record { rides = w.rides; ends = AtEnd })
+    split None told rest e f h = cc
+    split (Some l) told rest e f h =
+        let same : reader.pending ++ l ≡ rest = cc in
+        (all_ended f.parts ++ reader.pending, l, refl, f.is_text ∙ ap (λ (x : List ℕ). all_ended f.parts ++ x) (sym same) ∙ sym (append_assoc (all_ended f.parts) reader.pending l), lines_read g.nodes w.rides told rest reader.pending number room f h)
+
+    unread_said : (x y : Option (List ℕ)) → WhereTold x (λ told. IsPart g.nodes w.rides told y number room) → Tells room y (Err Fault) reader.room (unread reader left) → position is_line_end reader.pending ≡ None
+        → WhereTold x (λ told. (read rest : List ℕ) × (left ≡ Some rest) × (told ≡ read ++ rest) × (rides_in g.nodes [] 1 (map Whole (ended_lines read)) ≡ record { rides = w.rides; ends = AtEnd }))
+    unread_said None y p t h = tt
+    unread_said (Some told) None p t h = absurd p
+    unread_said (Some told) (Some rest) p t h = split left told rest t p h
+
+    long : (y : Option (List ℕ)) (rest : List ℕ) → Tells room y (Err Long) reader.room (unread reader left) → y ≡ Some rest → pieces room rest ≡ TooLong ∷ []
+    long None rest t e = cc
+    long (Some r) rest t e = let q : r ≡ rest = cc in ap (pieces room) (sym q) ∙ t.0
+
+    large : (y : Option (List ℕ)) (rest : List ℕ) → Tells room y (Err Large) reader.room (unread reader left) → y ≡ Some rest → pieces room rest ≡ TooLarge ∷ []
+    large None rest t e = cc
+    large (Some r) rest t e = let q : r ≡ rest = cc in ap (pieces room) (sym q) ∙ t.0
+
+    on : (fault : LineFault) → ending ≡ ending_of_line (number + 1) fault → Tells room before (Err fault) reader.room (unread reader left) → (fault ≡ Fault → position is_line_end reader.pending ≡ None)
+        → Streamed g rates vehicles (WhereTold text) (Err ending) left old mid
+    on Fault e t h = subst (λ (x : Ending). Streamed g rates vehicles (WhereTold text) (Err x) left old mid) (sym e)
+        (record { rides = w.rides; printed = journal_of w.history; said = unread_said text before w.part t (h refl); is_history = is_history g rates vehicles w.rides fleet w.history v w.answered; took = w.took })
+    on Long e t h = subst (λ (x : Ending). Streamed g rates vehicles (WhereTold text) (Err x) left old mid) (sym e) (at (AtBad (number + 1)) (stop text TooLong before 0 w.part Long (λ rest q. long before rest t q) (λ m. refl)))
+    on Large e t h = subst (λ (x : Ending). Streamed g rates vehicles (WhereTold text) (Err x) left old mid) (sym e) (at (AtBad (number + 1)) (stop text TooLarge before 0 w.part Large (λ rest q. large before rest t q) (λ m. refl)))
+    on LineNoMemory e t h = subst (λ (x : Ending). Streamed g rates vehicles (WhereTold text) (Err x) left old mid) (sym e) (early (some_more text before w.part))
 
 -- no line more
-pub at_end : (g : Roads) (vehicles : List Vehicle) (numbers : BTreeSet ℕ) (fleet : Cars) (text : Option (List ℕ)) (line : Option Line) (before after : Option (List Piece)) (room : ℕ) (old new : Option (List ℕ))
-    → AreVehicles g.nodes vehicles → IsOnItsWay g vehicles numbers fleet (ahead (record { pending = []; given = 0; room = largest_text; stopped = None }) text) before room old new
-    → ((l : Line) → line ≡ Some l → ⊥) → GivesLine before (Ok line) after → WhereTold text (λ told. IsStreamAnswered g vehicles told old new)
-at_end g vehicles numbers fleet None line before after room old new v h n e = tt
-at_end g vehicles numbers fleet (Some text) (Some line) before after room old new v h n e = absurd (n line refl)
-at_end g vehicles numbers fleet (Some text) None None after room old new v h n e = (let bad = h.said in cc)
-at_end g vehicles numbers fleet (Some text) None (Some before) after room old new v h n e =
-    stream_done g vehicles h.rides fleet text old new v h.answered (ap (λ (pieces : List Piece). rides_said g.nodes h.rides (Some pieces)) (sym e.0) ∙ h.said)
+pub ends_with_none : (g : Roads) (rates : Rates) (vehicles : List Vehicle) (numbers : BTreeSet ℕ) (fleet : Cars) (text before after left : Option (List ℕ)) (number room room' : ℕ) (old mid : Option (List ℕ)) (line : Option Line)
+    → AreVehicles g.nodes vehicles → IsOnItsWay g rates vehicles numbers fleet text before number room old mid → Tells room before (Ok line) room' after → ((l : Line) → line ≡ Some l → ⊥)
+    → Streamed g rates vehicles (WhereTold text) (Ok tt) left old mid
+ends_with_none g rates vehicles numbers fleet text before after left number room room' old mid (Some line) v w t n = absurd (n line refl)
+ends_with_none g rates vehicles numbers fleet text before after left number room room' old mid None v w t n = record {
+  rides = w.rides;
+  printed = journal_of w.history;
+  said = all text before w.part t;
+  is_history = is_history g rates vehicles w.rides fleet w.history v w.answered;
+  took = w.took;
+}
+  where
+    all : (x y : Option (List ℕ)) → WhereTold x (λ told. IsPart g.nodes w.rides told y number room) → Tells room y (Ok None) room' after → WhereTold x (λ told. rides_of g.nodes told ≡ record { rides = w.rides; ends = AtEnd })
+    all None y p t = tt
+    all (Some told) None p t = absurd p
+    all (Some told) (Some rest) p t = rides_left g.nodes w.rides told rest number room p ∙ ap (λ (l : List ℕ). onto w.rides (rides_in g.nodes w.rides (number + 1) (pieces room l))) t.0 ∙ end_of w.rides AtEnd
+
+-- What the answer for a line left: these rides are answered, with the line's among them.
+pub record HasAnswered (g : Roads) (rates : Rates) (vehicles : List Vehicle) (numbers more : BTreeSet ℕ) (fleet next : Cars) (rides : List Request) (history : List Entry) (line : Line) (number : ℕ) (old new : Option (List ℕ)) : Type 0 where
+  pub others : List Request
+  pub extended : List Entry
+  pub answered : AreAnswered g rates vehicles (rides ++ others) next extended
+  pub took : Takes old new (journal_of extended)
+  pub kept : (n : ℕ) → contains nat_cmp more n ≡ list_any (λ (b : Request). b.no.0 == n) (rides ++ others)
+  pub few : next.version ≤ fleet.version + 2
+  pub goes : (m : List Piece) → rides_in g.nodes rides (number + 1) (Whole line.bytes ∷ m) ≡ onto others (rides_in g.nodes (rides ++ others) (number + 2) m)
+
+has_answered : (g : Roads) (rates : Rates) (vehicles : List Vehicle) (numbers more : BTreeSet ℕ) (fleet next : Cars) (text before : Option (List ℕ)) (line : Line) (number room : ℕ) (old mid new : Option (List ℕ))
+    (w : IsOnItsWay g rates vehicles numbers fleet text before number room old mid) → line.number ≡ number + 1
+    → LineAnswer g numbers fleet (asked_by g.nodes numbers line.number (stream_line_of line.bytes)) (Ok tt) more next mid new
+    → ((r : Request) → asked_by g.nodes numbers line.number (stream_line_of line.bytes) ≡ Ok (Some r) → r.moment ≤ 2 ^ 40)
+    → HasAnswered g rates vehicles numbers more fleet next w.rides w.history line number old new
+has_answered g rates vehicles numbers more fleet next text before line number room old mid new w c a moments = on (asked_by g.nodes numbers line.number (stream_line_of line.bytes)) refl a
+  where
+    two : number + 1 + 1 ≡ number + 2
+    two = omega arith
+
+    on : (asked : Result (Option Request) Ending) → asked_by g.nodes numbers line.number (stream_line_of line.bytes) ≡ asked → LineAnswer g numbers fleet asked (Ok tt) more next mid new
+        → HasAnswered g rates vehicles numbers more fleet next w.rides w.history line number old new
+    on (Err ending) e x = let bad = x.0 in cc
+    on (Ok None) e x = record {
+      others = [];
+      extended = w.history;
+      answered = subst (λ (l : List Request). AreAnswered g rates vehicles l next w.history) (sym (append-nil w.rides)) (subst (λ (f : Cars). AreAnswered g rates vehicles w.rides f w.history) (sym x.2) w.answered);
+      took = subst (λ (o : Option (List ℕ)). Takes old o (journal_of w.history)) (sym x.3) w.took;
+      kept = λ n. ap (λ (s : BTreeSet ℕ). contains nat_cmp s n) x.1 ∙ w.kept n ∙ ap (list_any (λ (b : Request). b.no.0 == n)) (sym (append-nil w.rides));
+      few = let v : next.version ≡ fleet.version = ap (λ (f : Cars). f.version) x.2 in omega arith;
+      goes = λ m. nothing_said g.nodes w.rides (number + 1) line.bytes m (asks_nothing g.nodes numbers line e) ∙ ap (λ (k : ℕ). rides_in g.nodes w.rides k m) two ∙ ap (λ (l : List Request). rides_in g.nodes l (number + 2) m) (sym (append-nil w.rides));
+    }
+    on (Ok (Some r)) e x =
+        let asks = asks_ride g.nodes w.rides numbers line r w.kept e in
+        let f = is_fit g.nodes numbers r asks.by_numbers (moments r e) in
+        let fresh : stood_before w.rides r ≡ false = sym (w.kept r.no.0) ∙ f.1 in
+        let d = x.1.decides in
+        let v : next.version ≡ fleet.version + 2 = version_more g fleet next r x.1.decision d in
+        record {
+          others = r ∷ [];
+          extended = with_ride w.history r x.1.decision;
+          answered = one_more g rates vehicles w.rides fleet next r w.history x.1.decision w.answered f.0 fresh d;
+          took = subst (Takes old new) (sym (ride_more w.history r x.1.decision)) (takes_both old mid new (journal_of w.history) (ride_group r x.1.decision) w.took x.1.took);
+          kept = kept_more numbers more w.rides r w.kept (x.0 refl);
+          few = omega arith;
+          goes = λ m. ride_said g.nodes w.rides (number + 1) line.bytes m r asks.says asks.accepted ∙ ap (λ (k : ℕ). onto_rides r (rides_in g.nodes (w.rides ++ r ∷ []) k m)) two;
+        }
+
+-- a line that was answered and ended: the stream goes on
+pub further : (g : Roads) (rates : Rates) (vehicles : List Vehicle) (numbers more : BTreeSet ℕ) (fleet next : Cars) (text before after : Option (List ℕ)) (line : Line) (number room room' : ℕ) (old mid new : Option (List ℕ))
+    → IsOnItsWay g rates vehicles numbers fleet text before number room old mid → Tells room before (Ok (Some line)) room' after → line.number ≡ number + 1 → room' < room → line.ended ≡ true
+    → LineAnswer g numbers fleet (asked_by g.nodes numbers line.number (stream_line_of line.bytes)) (Ok tt) more next mid new
+    → ((r : Request) → asked_by g.nodes numbers line.number (stream_line_of line.bytes) ≡ Ok (Some r) → r.moment ≤ 2 ^ 40)
+    → IsOnItsWay g rates vehicles more next text after line.number room' old new
+further g rates vehicles numbers more fleet next text before after line number room room' old mid new w t c falls ended a moments =
+    let h = has_answered g rates vehicles numbers more fleet next text before line number room old mid new w c a moments in
+    let few0 = w.few in
+    let few1 = h.few in
+    let few2 = w.few_lines in
+    record {
+      rides = w.rides ++ h.others;
+      history = h.extended;
+      answered = h.answered;
+      took = h.took;
+      kept = h.kept;
+      few = omega arith;
+      few_lines = omega arith;
+      part = on h.others h.goes text w.part;
+    }
+  where
+    on : (others : List Request) → ((m : List Piece) → rides_in g.nodes w.rides (number + 1) (Whole line.bytes ∷ m) ≡ onto others (rides_in g.nodes (w.rides ++ others) (number + 2) m))
+        → (x : Option (List ℕ)) → WhereTold x (λ told. IsPart g.nodes w.rides told before number room) → WhereTold x (λ told. IsPart g.nodes (w.rides ++ others) told after line.number room')
+    on others goes None p = tt
+    on others goes (Some told) p =
+        let n = is_next g.nodes w.rides told line before after number room room' p t in
+        let said : rides_in g.nodes w.rides (number + 1) (Whole line.bytes ∷ []) ≡ record { rides = others; ends = AtEnd } = goes [] ∙ ap (λ (l : List Request). record { rides = l; ends = AtEnd }) (append-nil others) in
+        let f = front_more g.nodes w.rides others told n.rest line.bytes number room room' n.front (sym n.ended_is ∙ ended) n.in_pieces said in
+        subst (λ (o : Option (List ℕ)). IsPart g.nodes (w.rides ++ others) told o line.number room') (sym n.after_is) (subst (λ (k : ℕ). IsFrontOf g.nodes (w.rides ++ others) told (after_line n.rest) k room') (sym c) f)
+
+-- a last line that wasn't ended was answered
+pub ends_with_line : (g : Roads) (rates : Rates) (vehicles : List Vehicle) (numbers more : BTreeSet ℕ) (fleet next : Cars) (text before after left : Option (List ℕ)) (line : Line) (number room room' : ℕ) (old mid new : Option (List ℕ))
+    → AreVehicles g.nodes vehicles → IsOnItsWay g rates vehicles numbers fleet text before number room old mid → Tells room before (Ok (Some line)) room' after → line.number ≡ number + 1 → line.ended ≡ false
+    → LineAnswer g numbers fleet (asked_by g.nodes numbers line.number (stream_line_of line.bytes)) (Ok tt) more next mid new
+    → ((r : Request) → asked_by g.nodes numbers line.number (stream_line_of line.bytes) ≡ Ok (Some r) → r.moment ≤ 2 ^ 40)
+    → Streamed g rates vehicles (WhereTold text) (Ok tt) left old new
+ends_with_line g rates vehicles numbers more fleet next text before after left line number room room' old mid new v w t c ended a moments =
+    let h = has_answered g rates vehicles numbers more fleet next text before line number room old mid new w c a moments in
+    record {
+      rides = w.rides ++ h.others;
+      printed = journal_of h.extended;
+      said = on h.others h.goes text w.part;
+      is_history = is_history g rates vehicles (w.rides ++ h.others) next h.extended v h.answered;
+      took = h.took;
+    }
+  where
+    none_left : (rest : List ℕ) → is_ended rest ≡ false → after_line rest ≡ []
+    none_left rest e = after_last_line rest (none (position is_line_end rest) e)
+      where
+        none : (o : Option ℕ) → is_some o ≡ false → o ≡ None
+        none None e = refl
+        none (Some k) e = cc
+
+    on : (others : List Request) → ((m : List Piece) → rides_in g.nodes w.rides (number + 1) (Whole line.bytes ∷ m) ≡ onto others (rides_in g.nodes (w.rides ++ others) (number + 2) m))
+        → (x : Option (List ℕ)) → WhereTold x (λ told. IsPart g.nodes w.rides told before number room) → WhereTold x (λ told. rides_of g.nodes told ≡ record { rides = w.rides ++ others; ends = AtEnd })
+    on others goes None p = tt
+    on others goes (Some told) p =
+        let n = is_next g.nodes w.rides told line before after number room room' p t in
+        rides_from g.nodes w.rides told line after number room room' n
+        ∙ ap (λ (l : List ℕ). onto w.rides (rides_in g.nodes w.rides (number + 1) (Whole line.bytes ∷ pieces room' l))) (none_left n.rest (sym n.ended_is ∙ ended))
+        ∙ ap (onto w.rides) (goes []) ∙ ap (λ (l : List Request). record { rides = w.rides ++ l; ends = AtEnd }) (append-nil others)
+
+take_past : (xs ys : List ℕ) (n : ℕ) → take (length xs + n) (xs ++ ys) ≡ xs ++ take n ys
+take_past [] ys n = let e : 0 + n ≡ n = omega arith in ap (λ (k : ℕ). take k ys) e
+take_past (x ∷ xs) ys n = let e : length (x ∷ xs) + n ≡ suc (length xs + n) = omega arith in ap (λ (k : ℕ). take k (x ∷ (xs ++ ys))) e ∙ ap (λ (l : List ℕ). x ∷ l) (take_past xs ys n)
+
+takes_front : (a b c : Option (List ℕ)) (xs ys : List ℕ) → Takes a b xs → TakesFront b c ys → TakesFront a c (xs ++ ys)
+takes_front a b c xs ys h k =
+    let within = k.1 in
+    (length xs + k.0, omega (arith, length-append xs ys), subst (Takes a c) (sym (take_past xs ys k.0)) (takes_both a b c xs (take k.0 ys) h k.2))
+
+-- the lines of a ride couldn't be written, or memory was wanted
+pub ends_in_ride : (g : Roads) (rates : Rates) (vehicles : List Vehicle) (numbers more : BTreeSet ℕ) (fleet next : Cars) (text before after left : Option (List ℕ)) (line : Line) (number room room' : ℕ) (old mid new : Option (List ℕ)) (ending : Ending)
+    → AreVehicles g.nodes vehicles → IsOnItsWay g rates vehicles numbers fleet text before number room old mid → Tells room before (Ok (Some line)) room' after → line.number ≡ number + 1
+    → LineAnswer g numbers fleet (asked_by g.nodes numbers line.number (stream_line_of line.bytes)) (Err ending) more next mid new
+    → ((r : Request) → asked_by g.nodes numbers line.number (stream_line_of line.bytes) ≡ Ok (Some r) → r.moment ≤ 2 ^ 40)
+    → Streamed g rates vehicles (WhereTold text) (Err ending) left old new
+ends_in_ride g rates vehicles numbers more fleet next text before after left line number room room' old mid new ending v w t c a moments = on (asked_by g.nodes numbers line.number (stream_line_of line.bytes)) refl a
+  where
+    told_more : (others : List Request) → ((m : List Piece) → (tail : List Request) × ((rides_in g.nodes w.rides (number + 1) (Whole line.bytes ∷ m)).rides ≡ others ++ tail))
+        → (x : Option (List ℕ)) → WhereTold x (λ told. IsPart g.nodes w.rides told before number room) → WhereTold x (λ told. (tail : List Request) × ((rides_of g.nodes told).rides ≡ (w.rides ++ others) ++ tail))
+    told_more others goes None p = tt
+    told_more others goes (Some told) p =
+        let n = is_next g.nodes w.rides told line before after number room room' p t in
+        let h = goes (pieces room' (after_line n.rest)) in
+        (h.0, ap (λ (r : Rides). r.rides) (rides_from g.nodes w.rides told line after number room room' n) ∙ ap (λ (l : List Request). w.rides ++ l) h.1 ∙ sym (append_assoc w.rides others h.0))
+
+    ride : (r : Request) → asked_by g.nodes numbers line.number (stream_line_of line.bytes) ≡ Ok (Some r) → (e : Ending) → RideAnswer g fleet r (Err e) next mid new → Streamed g rates vehicles (WhereTold text) (Err e) left old new
+    ride r q WriteFault x =
+        let asks = asks_ride g.nodes w.rides numbers line r w.kept q in
+        let f = is_fit g.nodes numbers r asks.by_numbers (moments r q) in
+        let fresh : stood_before w.rides r ≡ false = sym (w.kept r.no.0) ∙ f.1 in
+        record {
+          rides = w.rides ++ r ∷ [];
+          printed = journal_of (with_ride w.history r x.decision);
+          said = told_more (r ∷ []) (λ m. ((rides_in g.nodes (w.rides ++ r ∷ []) (number + 1 + 1) m).rides, ap (λ (l : Rides). l.rides) (ride_said g.nodes w.rides (number + 1) line.bytes m r asks.says asks.accepted))) text w.part;
+          is_history = is_history g rates vehicles (w.rides ++ r ∷ []) next (with_ride w.history r x.decision) v (one_more g rates vehicles w.rides fleet next r w.history x.decision w.answered f.0 fresh x.decides);
+          took = subst (TakesFront old new) (sym (ride_more w.history r x.decision)) (takes_front old mid new (journal_of w.history) (ride_group r x.decision) w.took x.took);
+        }
+    ride r q NoMemory x = record {
+      rides = w.rides;
+      printed = journal_of w.history;
+      said = shorter text (told_more [] (λ m. ((rides_in g.nodes w.rides (number + 1) (Whole line.bytes ∷ m)).rides, refl)) text w.part);
+      is_history = is_history g rates vehicles w.rides fleet w.history v w.answered;
+      took = subst (λ (o : Option (List ℕ)). Takes old o (journal_of w.history)) (sym x) w.took;
+    }
+      where
+        shorter : (y : Option (List ℕ)) → WhereTold y (λ told. (tail : List Request) × ((rides_of g.nodes told).rides ≡ (w.rides ++ []) ++ tail)) → WhereTold y (λ told. (tail : List Request) × ((rides_of g.nodes told).rides ≡ w.rides ++ tail))
+        shorter None p = tt
+        shorter (Some told) p = (p.0, p.1 ∙ ap (λ (l : List Request). l ++ p.0) (append-nil w.rides))
+    ride r q NotYet x = absurd x
+    ride r q (GraphText k) x = absurd x
+    ride r q (FleetText k) x = absurd x
+    ride r q (StreamText k) x = absurd x
+    ride r q ReadFault x = absurd x
+
+    on : (asked : Result (Option Request) Ending) → asked_by g.nodes numbers line.number (stream_line_of line.bytes) ≡ asked → LineAnswer g numbers fleet asked (Err ending) more next mid new
+        → Streamed g rates vehicles (WhereTold text) (Err ending) left old new
+    on (Err e) q x =
+        let same : ending ≡ e = let h = x.0 in cc in
+        ends_at_line g rates vehicles numbers fleet text before after number room room' old mid new left line ending v w t c (q ∙ ap (λ (y : Ending). Err y) (sym same)) x.1
+    on (Ok None) q x = let bad = x.0 in cc
+    on (Ok (Some r)) q x = ride r q ending x.1
+
+-- the schedules have least walks all along
+pub still_least : (g : Roads) (rates : Rates) (vehicles : List Vehicle) (numbers : BTreeSet ℕ) (fleet : Cars) (text before : Option (List ℕ)) (number room : ℕ) (old mid : Option (List ℕ))
+    → AreVehicles g.nodes vehicles → IsOnItsWay g rates vehicles numbers fleet text before number room old mid → HaveLeastWalks g fleet.cars
+still_least g rates vehicles numbers fleet text before number room old mid v w = walks_least g rates vehicles w.rides fleet w.history v w.answered
+
+-- memory was wanted before anything was read
+pub ends_at_once : (g : Roads) (rates : Rates) (vehicles : List Vehicle) (text left old : Option (List ℕ)) → AreVehicles g.nodes vehicles → EndsEarly g rates vehicles (WhereTold text) (Takes old old)
+ends_at_once g rates vehicles text left old v = record {
+  rides = [];
+  printed = [];
+  said = on text;
+  is_history = is_history g rates vehicles [] (opening_fleet rates vehicles) [] v (none_yet g rates vehicles);
+  took = took_nothing old;
+}
+  where
+    on : (x : Option (List ℕ)) → WhereTold x (λ told. (more : List Request) × ((rides_of g.nodes told).rides ≡ [] ++ more))
+    on None = tt
+    on (Some told) = ((rides_of g.nodes told).rides, refl)
+
+-- an error that was handed on
+pub handed_on : {T E : Type 0} (result : Result T E) (e : E) → IsErr result × IsErrAnd result (λ x. x ≡ e) → result ≡ Err e
+handed_on (Ok t) e h = let bad : false ≡ true = h.0 in cc
+handed_on (Err x) e h = ap (λ y. Err y) h.1

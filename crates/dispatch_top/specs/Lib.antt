@@ -1,12 +1,11 @@
-pub mod Ahead
+pub mod Asking
 pub mod Choosing
 pub mod Codes
 pub mod Deciding
 pub mod Endings
-pub mod Forms
 pub mod Opening
 pub mod Runs
-pub mod Samples
+pub mod Streaming
 pub mod Streams
-pub mod Told
+pub mod Tasks
 pub mod Ways

@@ -1,50 +1,103 @@
-use Rattle.std.specs.Prelude.{◌≡◌, ℕ, ◌≤◌, ◌++◌, true, List, [], ◌∷◌, map, take, length, Option, Some, None}
-use Rattle.ride_base.specs.Outside.{Held, Text, Takes}
+use Rattle.std.specs.Prelude.{◌≡◌, ℕ, ◌++◌, ◌⊎◌, List, [], map, Option, Some, Ok, Err}
+use Rattle.ride_base.specs.Outside.{Held, Text, Takes, TakesFront}
+use Rattle.ride_base.specs.Pieces.{Whole, ended_lines}
 use Rattle.road_graph.specs.Roads.{Roads}
+use Rattle.dimacs_reader.specs.declared.faults.GraphFault.{GraphFault}
+use Rattle.dimacs_reader.specs.Graphs.{graph_of}
 use Rattle.stop_schedule.specs.declared.request.Request.{Request}
 use Rattle.stop_schedule.specs.declared.vehicle.Vehicle.{Vehicle}
-use Rattle.stop_schedule.specs.Rates.{usual}
+use Rattle.stop_schedule.specs.Rates.{Rates}
+use Rattle.input_tables.specs.declared.faults.FleetFault.{FleetFault}
+use Rattle.input_tables.specs.Fleets.{fleet_of}
 use Rattle.board_core.specs.declared.entry.Entry.{Entry}
 use Rattle.board_core.specs.Boards.{Board, opening_board}
 use Rattle.board_core.specs.Histories.{Legal, Ride, asked_in, AreAnsweredAtOnce}
 use Rattle.board_core.specs.Promises.{KeepsPromises}
 use Rattle.journal_text.specs.Groups.{journal_of}
-use Rattle.dispatch_top.specs.Forms.{graph_of, fleet_of, rides_of, Rides}
+use Rattle.dispatch_top.specs.declared.status.Status.{Status}
+use Rattle.dispatch_top.specs.declared.status.Status.TheVariants.{Done, NotYet, Usage, GraphText, FleetText, StreamText, ReadFault, WriteFault, NoMemory}
+use Rattle.dispatch_top.specs.declared.ending.Ending.TheVariants.{GraphText as EndsGraph, FleetText as EndsFleet}
+use Rattle.dispatch_top.specs.Endings.{ending_of_graph, ending_of_fleet}
+use Rattle.dispatch_top.specs.Streams.{rides_of, rides_in, StreamEnd, AtEnd, AtLater, AtBad}
+use Rattle.dispatch_top.specs.Tasks.{Answering, BeganFewer}
+
+-- How a run ends, and what was printed by then.
 
 -- These bytes are the lines of one legal history over a graph, from the opening board of these vehicles on: these rides were
 -- submitted in order, each was answered at once, and each promise is kept in every front of the history.
-pub record IsHistoryOf (roads : Roads) (vehicles : List Vehicle) (rides : List Request) (printed : List ℕ) : Type 0 where
+pub record IsHistoryOf (roads : Roads) (rates : Rates) (vehicles : List Vehicle) (rides : List Request) (printed : List ℕ) : Type 0 where
   pub history : List Entry
   pub last : Board
-  pub legal : Legal roads (opening_board roads.nodes usual vehicles) history last
+  pub legal : Legal roads (opening_board roads.nodes rates vehicles) history last
   pub rides_asked : asked_in history ≡ map Ride rides
   pub at_once : AreAnsweredAtOnce history
-  pub kept : KeepsPromises roads (opening_board roads.nodes usual vehicles) history
+  pub kept : KeepsPromises roads (opening_board roads.nodes rates vehicles) history
   pub rendered : printed ≡ journal_of history
 
--- Three texts were read to the end, and a legal history that answers all rides of the stream was printed.
-pub record Answered (graph fleet stream : List ℕ) (old new : Option (List ℕ)) : Type 0 where
-  pub roads : Roads
-  pub vehicles : List Vehicle
+-- All rides of a stream up to this end were answered. `Says` tells a fact of the stream's text.
+pub record EndsAt (roads : Roads) (rates : Rates) (vehicles : List Vehicle) (end : StreamEnd) (Says : (List ℕ → Type 0) → Type 0) (old new : Option (List ℕ)) : Type 0 where
   pub rides : List Request
   pub printed : List ℕ
-  pub graph_read : graph_of graph ≡ Some roads
-  pub fleet_read : fleet_of roads.nodes fleet ≡ Some vehicles
-  pub stream_read : rides_of roads.nodes stream ≡ record { rides = rides; whole = true }
-  pub is_history : IsHistoryOf roads vehicles rides printed
+  pub said : Says (λ text. rides_of roads.nodes text ≡ record { rides = rides; ends = end })
+  pub is_history : IsHistoryOf roads rates vehicles rides printed
   pub took : Takes old new printed
 
--- where the shelf tells what the three names hold, they were answered
-abbrev pub AnsweredWhereTold : (List ℕ → Held) → (graph_name fleet_name stream_name : List ℕ) → Option (List ℕ) → Option (List ℕ) → Type 0
-AnsweredWhereTold held g f s old new =
-    (graph fleet stream : List ℕ) → held g ≡ Text graph → held f ≡ Text fleet → held s ≡ Text stream → Answered graph fleet stream old new
+-- The first rides of a stream were answered, and so much of their lines was taken.
+pub record EndsEarly (roads : Roads) (rates : Rates) (vehicles : List Vehicle) (Says : (List ℕ → Type 0) → Type 0) (Took : List ℕ → Type 0) : Type 0 where
+  pub rides : List Request
+  pub printed : List ℕ
+  pub said : Says (λ text. (more : List Request) × ((rides_of roads.nodes text).rides ≡ rides ++ more))
+  pub is_history : IsHistoryOf roads rates vehicles rides printed
+  pub took : Took printed
 
--- what Done says: there were the four words of the form, and the three texts were answered
-abbrev pub Told : (List ℕ → Held) → List (List ℕ) → Option (List ℕ) → Option (List ℕ) → Type 0
-Told held (word ∷ g ∷ f ∷ s ∷ []) old new = AnsweredWhereTold held g f s old new
-Told held words old new = ⊥
+-- The rides of exactly those lines were answered that a line end ends among the bytes that were read. The others are left.
+pub record EndsUnread (roads : Roads) (rates : Rates) (vehicles : List Vehicle) (Says : (List ℕ → Type 0) → Type 0) (left old new : Option (List ℕ)) : Type 0 where
+  pub rides : List Request
+  pub printed : List ℕ
+  pub said : Says (λ text. (read rest : List ℕ) × (left ≡ Some rest) × (text ≡ read ++ rest) × (rides_in roads.nodes [] 1 (map Whole (ended_lines read)) ≡ record { rides = rides; ends = AtEnd }))
+  pub is_history : IsHistoryOf roads rates vehicles rides printed
+  pub took : Takes old new printed
 
--- The names that were begun in the call are the first of the form's names, each once.
-abbrev pub BeganInOrder : List (List ℕ) → List (List ℕ) → List (List ℕ) → Type 0
-BeganInOrder (word ∷ names) old new = (k : ℕ) × (k ≤ length names) × (new ≡ old ++ take k names)
-BeganInOrder [] old new = new ≡ old
+-- where a name holds a text that is told, the fact is so of it
+abbrev pub OfHeld : (List ℕ → Held) → List ℕ → (List ℕ → Type 0) → Type 0
+OfHeld held name Fact = (text : List ℕ) → held name ≡ Text text → Fact text
+
+-- the graph and the fleet were read, and then this came
+pub record AfterReading (held : List ℕ → Held) (a : Answering) (Came : Roads → List Vehicle → Type 0) : Type 0 where
+  pub roads : Roads
+  pub vehicles : List Vehicle
+  pub graph_read : OfHeld held a.graph (λ text. graph_of text ≡ Ok roads)
+  pub fleet_read : OfHeld held a.fleet (λ text. fleet_of roads.nodes text ≡ Ok vehicles)
+  pub came : Came roads vehicles
+
+-- the graph was read, and the fleet's first bad row is this
+pub record HasBadFleet (held : List ℕ → Held) (a : Answering) (row : ℕ) : Type 0 where
+  pub roads : Roads
+  pub graph_read : OfHeld held a.graph (λ text. graph_of text ≡ Ok roads)
+  pub bad : OfHeld held a.fleet (λ text. (fault : FleetFault) × (fleet_of roads.nodes text ≡ Err fault) × (ending_of_fleet fault ≡ EndsFleet row))
+
+-- the graph's first bad line is this
+abbrev pub HasBadGraph : (List ℕ → Held) → Answering → ℕ → Type 0
+HasBadGraph held a line = OfHeld held a.graph (λ text. (fault : GraphFault) × (graph_of text ≡ Err fault) × (ending_of_graph fault ≡ EndsGraph line))
+
+-- All of the stream was answered up to this end, and its lines were taken.
+abbrev pub StreamEnds : (List ℕ → Held) → Answering → StreamEnd → (old new : Option (List ℕ)) → Type 0
+StreamEnds held a end old new = AfterReading held a (λ roads vehicles. EndsAt roads a.rates vehicles end (OfHeld held a.stream) old new)
+
+-- nothing was taken, since no text of the stream was begun
+abbrev pub UnbegunStream : Answering → Type 0 → (old_names new_names : List (List ℕ)) → (old new : Option (List ℕ)) → Type 0
+UnbegunStream a IsBegun old_names new_names old new = (new ≡ old) × (IsBegun → BeganFewer a old_names new_names)
+
+-- how a run ends with each status
+abbrev pub Ends : (List ℕ → Held) → Answering → Status → (IsBegun : Type 0) → (left : Option (List ℕ)) → (old_names new_names : List (List ℕ)) → (old new : Option (List ℕ)) → Type 0
+Ends held a Done IsBegun left old_names new_names old new = StreamEnds held a AtEnd old new
+Ends held a NotYet IsBegun left old_names new_names old new = StreamEnds held a AtLater old new
+Ends held a Usage IsBegun left old_names new_names old new = ⊥
+Ends held a (GraphText line) IsBegun left old_names new_names old new = HasBadGraph held a line × (new ≡ old)
+Ends held a (FleetText row) IsBegun left old_names new_names old new = HasBadFleet held a row × (new ≡ old)
+Ends held a (StreamText line) IsBegun left old_names new_names old new = StreamEnds held a (AtBad line) old new
+Ends held a ReadFault IsBegun left old_names new_names old new =
+    UnbegunStream a IsBegun old_names new_names old new ⊎ AfterReading held a (λ roads vehicles. EndsUnread roads a.rates vehicles (OfHeld held a.stream) left old new)
+Ends held a WriteFault IsBegun left old_names new_names old new = AfterReading held a (λ roads vehicles. EndsEarly roads a.rates vehicles (OfHeld held a.stream) (TakesFront old new))
+Ends held a NoMemory IsBegun left old_names new_names old new =
+    (new ≡ old) ⊎ AfterReading held a (λ roads vehicles. EndsEarly roads a.rates vehicles (OfHeld held a.stream) (Takes old new))

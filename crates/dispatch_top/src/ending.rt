@@ -1,11 +1,19 @@
 use crate::status::Status;
-use ride_base::{BeginFault, Failed, LineFault, NoMemory};
+use dimacs_reader::GraphFault;
+use input_tables::FleetFault;
+use ride_base::{BeginFault, Failed, NoMemory};
 
 /// Why a run ends early.
 #[derive(Clone, Copy, Debug, PartialEq, Eq)]
 pub enum Ending {
-    /// A text isn't in its form.
+    /// A line asks for what isn't answered yet.
     NotYet,
+    /// The graph is refused at this line.
+    GraphText { line: u64 },
+    /// The fleet is refused at this row, or at none (0).
+    FleetText { row: u64 },
+    /// The stream is refused at this line.
+    StreamText { line: u64 },
     /// The shelf failed.
     ReadFault,
     /// The sink failed.
@@ -24,6 +32,9 @@ impl Ending {
     {
         match self {
             Ending::NotYet => Status::NotYet,
+            Ending::GraphText { line } => Status::GraphText { line },
+            Ending::FleetText { row } => Status::FleetText { row },
+            Ending::StreamText { line } => Status::StreamText { line },
             Ending::ReadFault => Status::ReadFault,
             Ending::WriteFault => Status::WriteFault,
             Ending::NoMemory => Status::NoMemory,
@@ -67,17 +78,39 @@ impl From<BeginFault> for Ending {
     }
 }
 
-impl From<LineFault> for Ending {
+impl From<GraphFault> for Ending {
     ghost use Rattle.std.specs.Prelude.{◌≡◌};
-    ghost use Rattle.dispatch_top.specs.Endings.{ending_of_line};
+    ghost use Rattle.dispatch_top.specs.Endings.{ending_of_graph};
 
-    ghost from_gives = { λ f e. e ≡ ending_of_line f };
+    ghost from_gives = { λ f e. e ≡ ending_of_graph f };
 
-    fn from(fault: LineFault) -> Ending {
+    fn from(fault: GraphFault) -> Ending {
         match fault {
-            LineFault::Fault => Ending::ReadFault,
-            LineFault::Long | LineFault::Large => Ending::NotYet,
-            LineFault::NoMemory => Ending::NoMemory,
+            GraphFault::Fault => Ending::ReadFault,
+            GraphFault::Form { line }
+            | GraphFault::Count { line, .. }
+            | GraphFault::Node { line }
+            | GraphFault::Weight { line }
+            | GraphFault::Limit { line } => Ending::GraphText { line },
+            GraphFault::NoMemory => Ending::NoMemory,
+        }
+    }
+}
+
+impl From<FleetFault> for Ending {
+    ghost use Rattle.std.specs.Prelude.{◌≡◌};
+    ghost use Rattle.dispatch_top.specs.Endings.{ending_of_fleet};
+
+    ghost from_gives = { λ f e. e ≡ ending_of_fleet f };
+
+    fn from(fault: FleetFault) -> Ending {
+        match fault {
+            FleetFault::Fault => Ending::ReadFault,
+            FleetFault::Large | FleetFault::Header => Ending::FleetText { row: 0 },
+            FleetFault::Form { row } | FleetFault::Range { row } | FleetFault::Double { row } => {
+                Ending::FleetText { row }
+            }
+            FleetFault::NoMemory => Ending::NoMemory,
         }
     }
 }

@@ -8,8 +8,8 @@ mod fleet;
 mod runs;
 mod status;
 mod stream;
-mod texts;
 mod ways;
+mod words;
 
 pub use runs::run;
 pub use status::Status;

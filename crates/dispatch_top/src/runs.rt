@@ -1,49 +1,62 @@
-ghost use Rattle.std.specs.Prelude.{◌≡◌, ℕ, ◌≤◌, ◌++◌, ◌∷◌, List, [], take, map, string_bytes, OnOk, Err};
-ghost use Rattle.ride_base.specs.Outside.{Rose};
-ghost use Rattle.dispatch_top.specs.Runs.{Told, AnsweredWhereTold, BeganInOrder};
+ghost use Rattle.std.specs.Prelude.{◌≡◌, ◌≤◌, map, string_bytes, Err, ◌⊎◌};
+ghost use Rattle.ride_base.specs.Outside.{Absent, Rose};
+ghost use Rattle.command_words.specs.Commands.{Word};
+ghost use Rattle.dispatch_top.specs.Endings.{ended_as};
+ghost use Rattle.dispatch_top.specs.Runs.{Ends};
+ghost use Rattle.dispatch_top.specs.Tasks.{Answering, Answer, Later, Unknown, task_of, AreHeld, BeganInOrder};
 
 use crate::ending::Ending;
 use crate::status::Status;
 use crate::stream::answer_stream;
-use crate::texts::{read_fleet, read_graph};
+use crate::words::{Task, read_words};
+use dimacs_reader::read_graph;
+use input_tables::read_fleet;
 use ride_base::{Shelf, Sink};
 use road_graph::Steps;
 use std::alloc::Global;
 use std::thread::Threads;
+use stop_schedule::Params;
 
-/// Answers the requests of a stream, by the words `run GRAPH FLEET STREAM` without the program's own name: it reads the three texts
-/// from the shelf in this order, and writes the lines of each ride to the sink as soon as it is answered.
+/// Does what the words of a command line ask, without the program's own name. By `run GRAPH FLEET STREAM` it reads the three texts from
+/// the shelf in this order, and writes the lines of each ride to the sink as soon as it is answered.
 pub fn run<R: Threads + Sync, S: Shelf, K: Sink, L>(
-    rt: &R,
+    _rt: &R,
     alloc: Global,
     words: &[String],
     shelf: &mut S,
     sink: &mut K,
     steps: &mut Steps<L>,
 ) -> Status
-    ensures done { result ≡ Status.Done → Told (S.held shelf.old) (map string_bytes words.now) (K.taken sink.old) (K.taken sink.new) }
+    ensures unknown { task_of (map string_bytes words.now) ≡ Unknown → ((result ≡ Status.Usage) ⊎ (result ≡ Status.NoMemory)) × (shelf.new ≡ shelf.old) × (sink.new ≡ sink.old) }
+    ensures later { task_of (map string_bytes words.now) ≡ Later → ((result ≡ Status.NotYet) ⊎ (result ≡ Status.NoMemory)) × (shelf.new ≡ shelf.old) × (sink.new ≡ sink.old) }
+    ensures answers { (a : Answering) → task_of (map string_bytes words.now) ≡ Answer a → Ends (S.held shelf.old) a result (S.IsBegun shelf.new) (S.left shelf.new) (S.names shelf.old) (S.names shelf.new) (K.taken sink.old) (K.taken sink.new) }
+    ensures names { (a : Answering) → task_of (map string_bytes words.now) ≡ Answer a → BeganInOrder a (S.names shelf.old) (S.names shelf.new) }
     ensures read { result ≡ Status.ReadFault → Rose (S.faults shelf.old) (S.faults shelf.new) }
     ensures written { result ≡ Status.WriteFault → Rose (K.faults sink.old) (K.faults sink.new) }
-    ensures names { BeganInOrder (map string_bytes words.now) (S.names shelf.old) (S.names shelf.new) }
     ensures held { S.held shelf.new ≡ S.held shelf.old }
+    ensures surely { (a : Answering) → task_of (map string_bytes words.now) ≡ Answer a → S.IsSure shelf.old → AreHeld a (S.held shelf.old) → result ≡ Status.ReadFault → ⊥ }
+    ensures silent { (a : Answering) → task_of (map string_bytes words.now) ≡ Answer a → S.IsSure shelf.old → AreHeld a (S.held shelf.old) → S.faults shelf.new ≡ S.faults shelf.old }
 {
-    let [mode, graph, fleet, stream] = words else {
-        return Status::NotYet;
-    };
-    if mode.as_str() != "run" {
-        return Status::NotYet;
-    }
-    match answer(
-        alloc,
-        graph.as_str(),
-        fleet.as_str(),
-        stream.as_str(),
-        shelf,
-        sink,
-        steps,
-    ) {
-        Ok(()) => Status::Done,
-        Err(ending) => ending.status(),
+    match read_words(alloc, words) {
+        Ok(Task::Answer(asked)) => {
+            let answered = answer(
+                alloc,
+                asked.graph,
+                asked.fleet,
+                asked.stream,
+                asked.params,
+                shelf,
+                sink,
+                steps,
+            );
+            match answered {
+                Ok(()) => Status::Done,
+                Err(ending) => ending.status(),
+            }
+        }
+        Ok(Task::Later) => Status::NotYet,
+        Ok(Task::Unknown) => Status::Usage,
+        Err(_) => Status::NoMemory,
     }
 }
 
@@ -53,20 +66,31 @@ fn answer<S: Shelf, K: Sink, L>(
     graph_name: &str,
     fleet_name: &str,
     stream_name: &str,
+    params: Params,
     shelf: &mut S,
     sink: &mut K,
     steps: &mut Steps<L>,
 ) -> Result<(), Ending>
-    ensures done { OnOk result (AnsweredWhereTold (S.held shelf.old) graph_name.now fleet_name.now stream_name.now (K.taken sink.old) (K.taken sink.new)) }
+    ensures ends { Ends (S.held shelf.old) (record { graph = graph_name.now; fleet = fleet_name.now; stream = stream_name.now; rates = params }) (ended_as result) (S.IsBegun shelf.new) (S.left shelf.new) (S.names shelf.old) (S.names shelf.new) (K.taken sink.old) (K.taken sink.new) }
+    ensures names { BeganInOrder (record { graph = graph_name.now; fleet = fleet_name.now; stream = stream_name.now; rates = params }) (S.names shelf.old) (S.names shelf.new) }
     ensures read { result ≡ Err Ending.ReadFault → Rose (S.faults shelf.old) (S.faults shelf.new) }
     ensures written { result ≡ Err Ending.WriteFault → Rose (K.faults sink.old) (K.faults sink.new) }
-    ensures names { (k : ℕ) × (k ≤ 3) × (S.names shelf.new ≡ S.names shelf.old ++ take k (graph_name.now ∷ fleet_name.now ∷ stream_name.now ∷ [])) }
     ensures held { S.held shelf.new ≡ S.held shelf.old }
+    ensures surely { S.IsSure shelf.old → AreHeld (record { graph = graph_name.now; fleet = fleet_name.now; stream = stream_name.now; rates = params }) (S.held shelf.old) → result ≡ Err Ending.ReadFault → ⊥ }
+    ensures silent { S.IsSure shelf.old → AreHeld (record { graph = graph_name.now; fleet = fleet_name.now; stream = stream_name.now; rates = params }) (S.held shelf.old) → S.faults shelf.new ≡ S.faults shelf.old }
 {
     shelf.begin(graph_name)?;
     let graph = read_graph(alloc, shelf)?;
     shelf.begin(fleet_name)?;
     let vehicles = read_fleet(alloc, shelf, graph.nodes())?;
     shelf.begin(stream_name)?;
-    answer_stream(alloc, &graph, vehicles.as_slice(), shelf, sink, steps)
+    answer_stream(
+        alloc,
+        &graph,
+        params,
+        vehicles.as_slice(),
+        shelf,
+        sink,
+        steps,
+    )
 }

@@ -5,13 +5,21 @@ ghost use Rattle.std.specs.Prelude.{◌≡◌, ℕ};
 pub enum Status {
     /// All was read to the end and answered.
     Done,
-    /// The words or a text aren't in the form that is answered so far.
+    /// The words have a form, or a line of the stream asks for something, that isn't answered yet. The lines before it are answered.
     NotYet,
-    /// A text couldn't be begun, or not be read further.
+    /// The words are none of the forms.
+    Usage,
+    /// The graph is refused, and this is its first bad line, from 1. Nothing is written.
+    GraphText { line: u64 },
+    /// The fleet is refused at this row, from 1 behind the header, or as a whole (0). Nothing is written.
+    FleetText { row: u64 },
+    /// This line of the stream, from 1, is its first bad one. The lines before it are answered.
+    StreamText { line: u64 },
+    /// A text couldn't be begun, or not be read further. The lines of the stream that were read whole are answered.
     ReadFault,
-    /// The output couldn't be written.
+    /// The output couldn't be written. A front of it was.
     WriteFault,
-    /// Memory was wanted.
+    /// Memory was wanted. The first lines of the stream are answered.
     NoMemory,
 }
 
@@ -25,6 +33,10 @@ impl Status {
         match self {
             Status::Done => 0,
             Status::NotYet => 1,
+            Status::Usage => 2,
+            Status::GraphText { .. } => 3,
+            Status::FleetText { .. } => 4,
+            Status::StreamText { .. } => 5,
             Status::ReadFault => 6,
             Status::WriteFault => 7,
             Status::NoMemory => 8,

@@ -1,29 +1,33 @@
-ghost use Rattle.std.specs.Prelude.{◌≡◌, ℕ, ◌≤◌, ◌<◌, ◌^◌, ◌==◌, ◌||◌, true, false, IfOk, OnOk, OnErr, Err, Some};
-ghost use Rattle.std.specs.BTreeSet.{contains};
-ghost use Rattle.std.specs.Ordering.{nat_cmp};
+ghost use Rattle.std.specs.Prelude.{◌≡◌, ℕ, true, ◌+◌, ◌≤◌, ◌<◌, ◌^◌, IfOk, IsOk, OnErr, Ok, Err, Some, None, IfSome};
 ghost use Rattle.ride_base.specs.Outside.{Rose, OnlyRead};
+ghost use Rattle.ride_base.specs.Reading.{unread};
+ghost use Rattle.ride_base.specs.Told.{WhereTold};
 ghost use Rattle.road_graph.specs.Roads.{is_node as is_node_of, IsNode};
-ghost use Rattle.dispatch_top.specs.Ahead.{AreVehicles};
-ghost use Rattle.dispatch_top.specs.Forms.{request_in, largest_moment};
-ghost use Rattle.dispatch_top.specs.Streams.{IsRideAnswered, IsStreamAnswered, HaveLeastWalks};
-ghost use Rattle.dispatch_top.specs.Told.{WhereTold};
+ghost use Rattle.stop_schedule.specs.declared.request.Request.{Request as RequestOf};
+ghost use Rattle.input_tables.specs.Refusals.{AreVehicles};
+ghost use Rattle.input_tables.specs.Streams.{stream_line_of};
+ghost use Rattle.dispatch_top.specs.Streaming.{AreMore, HaveLeastWalks, LineAnswer, LineGiven, RideAnswer, Streamed, accepted_by, asked_by};
 
 use crate::answer::decide;
 use crate::ending::Ending;
 use crate::fleet::Fleet;
-use crate::texts::{LARGEST_TEXT, is_node, next_line, ride};
 use board_core::{Entry, Submitted};
+use input_tables::{StreamLine, stream_line};
 use journal_text::render;
-use ride_base::{Line, Lines, RequestNo, Shelf, Sink, write_whole};
-use road_graph::{Graph, Steps};
+use ride_base::{Line, LineFault, Lines, RequestNo, Shelf, Sink, write_whole};
+use road_graph::{Graph, NodeNo, Steps};
 use std::alloc::Global;
 use std::collections::BTreeSet;
 use stop_schedule::{Params, Request, Vehicle};
+
+/// The most bytes of a stream.
+const LARGEST_TEXT: u64 = 1 << 30;
 
 /// Answers the rides of the text that is begun, one after another, from the vehicles at their starts on.
 pub(crate) fn answer_stream<S: Shelf, K: Sink, L>(
     alloc: Global,
     graph: &Graph,
+    params: Params,
     vehicles: &[Vehicle],
     shelf: &mut S,
     sink: &mut K,
@@ -31,54 +35,123 @@ pub(crate) fn answer_stream<S: Shelf, K: Sink, L>(
 ) -> Result<(), Ending>
     requires begun { S.IsBegun shelf.old }
     requires vehicles { AreVehicles graph.now.nodes vehicles.now }
-    ensures answered { OnOk result (WhereTold (S.left shelf.old) (λ text. IsStreamAnswered graph.now vehicles.now text (K.taken sink.old) (K.taken sink.new))) }
+    ensures streamed { Streamed graph.now params vehicles.now (WhereTold (S.left shelf.old)) result (S.left shelf.new) (K.taken sink.old) (K.taken sink.new) }
     ensures fault { result ≡ Err Ending.ReadFault → Rose (S.faults shelf.old) (S.faults shelf.new) }
+    ensures surely { S.IsSure shelf.old → result ≡ Err Ending.ReadFault → ⊥ }
     ensures written { result ≡ Err Ending.WriteFault → Rose (K.faults sink.old) (K.faults sink.new) }
+    ensures counted { K.faults sink.old ≤ K.faults sink.new }
     ensures shelf { OnlyRead S.IsBegun S.held S.names S.IsSure S.faults shelf.old shelf.new }
 {
-    let mut fleet = Fleet::opening(alloc, Params::usual(), vehicles)?;
+    let mut fleet = Fleet::opening(alloc, params, vehicles)?;
     let mut lines = Lines::new(alloc, LARGEST_TEXT);
     let mut numbers = BTreeSet::new(alloc);
-    while let Some(line) = next_line(alloc, &mut lines, shelf)? {
-        let request = accepted(alloc, graph.nodes(), &numbers, &line)?;
-        remember(&mut numbers, request.no)?;
-        answer_ride(alloc, graph, &mut fleet, request, sink, steps)?;
+    let mut number = 0;
+    'lines: loop {
+        let Some(line) = next_line(alloc, &mut lines, number, shelf)? else {
+            return Ok(());
+        };
+        answer_line(alloc, graph, &mut numbers, &mut fleet, &line, sink, steps)?;
+        if !line.ended {
+            return Ok(());
+        }
+        number = line.number;
     }
-    Ok(())
 }
 
-/// The ride of a line, where it has the form and no reason to be refused.
-fn accepted(
+/// The line after so many. None comes exactly at the end of the text.
+fn next_line<S: Shelf>(
     alloc: Global,
-    nodes: u32,
-    numbers: &BTreeSet<u64>,
-    line: &Line,
-) -> Result<Request, Ending>
-    ensures form { IfOk result (λ r. request_in line.now.bytes ≡ Some r) }
-    ensures pickup { IfOk result (λ r. is_node_of nodes r.pickup ≡ true) }
-    ensures dropoff { IfOk result (λ r. is_node_of nodes r.dropoff ≡ true) }
-    ensures some { IfOk result (λ r. 1 ≤ r.riders) }
-    ensures few { IfOk result (λ r. r.riders ≤ 16) }
-    ensures moment { IfOk result (λ r. r.moment ≤ largest_moment) }
-    ensures new { IfOk result (λ r. contains nat_cmp numbers.now r.no.0 ≡ false) }
-    ensures unread { result ≡ Err Ending.ReadFault → ⊥ }
-    ensures unwritten { result ≡ Err Ending.WriteFault → ⊥ }
+    lines: &mut Lines,
+    number: u64,
+    shelf: &mut S,
+) -> Result<Option<Line>, Ending>
+    requires begun { S.IsBegun shelf.old }
+    requires unstopped { lines.old.stopped ≡ None }
+    requires number { number ≡ lines.old.given }
+    requires few { number ≤ 2 ^ 30 }
+    ensures given { LineGiven number lines.old.room (unread lines.old (S.left shelf.old)) result lines.new.room (unread lines.new (S.left shelf.new)) lines.new.pending }
+    ensures unstopped { IsOk result → lines.new.stopped ≡ None }
+    ensures count { IfOk result (λ o. IfSome o (λ line. (line.number ≡ number + 1) × (lines.new.given ≡ number + 1))) }
+    ensures falls { IfOk result (λ o. IfSome o (λ _. lines.new.room < lines.old.room)) }
+    ensures fault { result ≡ Err Ending.ReadFault → Rose (S.faults shelf.old) (S.faults shelf.new) }
+    ensures surely { S.IsSure shelf.old → result ≡ Err Ending.ReadFault → ⊥ }
+    ensures shelf { OnlyRead S.IsBegun S.held S.names S.IsSure S.faults shelf.old shelf.new }
 {
-    let Some(request) = ride(alloc, line.bytes.as_slice())? else {
-        return Err(Ending::NotYet);
+    match lines.next(alloc, shelf) {
+        Ok(line) => Ok(line),
+        Err(LineFault::Fault) => Err(Ending::ReadFault),
+        Err(LineFault::Long | LineFault::Large) => Err(Ending::StreamText { line: number + 1 }),
+        Err(LineFault::NoMemory) => Err(Ending::NoMemory),
+    }
+}
+
+/// Answers what a line asks for, and keeps the numbers of the rides.
+fn answer_line<K: Sink, L>(
+    alloc: Global,
+    graph: &Graph,
+    numbers: &mut BTreeSet<u64>,
+    fleet: &mut Fleet,
+    line: &Line,
+    sink: &mut K,
+    steps: &mut Steps<L>,
+) -> Result<(), Ending>
+    requires version { fleet.old.version < 2 ^ 61 }
+    requires walks { HaveLeastWalks graph.now fleet.old.cars }
+    ensures answered { LineAnswer graph.now numbers.old fleet.old (asked_by graph.now.nodes numbers.old line.now.number (stream_line_of line.now.bytes)) result numbers.new fleet.new (K.taken sink.old) (K.taken sink.new) }
+    ensures unread { result ≡ Err Ending.ReadFault → ⊥ }
+    ensures moments { (r : RequestOf) → asked_by graph.now.nodes numbers.old line.now.number (stream_line_of line.now.bytes) ≡ Ok (Some r) → r.moment ≤ 2 ^ 40 }
+    ensures written { result ≡ Err Ending.WriteFault → Rose (K.faults sink.old) (K.faults sink.new) }
+    ensures counted { K.faults sink.old ≤ K.faults sink.new }
+{
+    let Some(request) = asked(graph.nodes(), numbers, line)? else {
+        return Ok(());
     };
-    if !is_node(nodes, request.pickup) || !is_node(nodes, request.dropoff) {
-        return Err(Ending::NotYet);
+    remember(numbers, request.no)?;
+    answer_ride(alloc, graph, fleet, request, sink, steps)
+}
+
+/// The ride that a line asks for, or none where it says nothing.
+fn asked(nodes: u32, numbers: &BTreeSet<u64>, line: &Line) -> Result<Option<Request>, Ending>
+    ensures asked { result ≡ asked_by nodes numbers.now line.now.number (stream_line_of line.now.bytes) }
+    ensures unread { result ≡ Err Ending.ReadFault → ⊥ }
+    ensures accepted { IfOk result (λ o. IfSome o (λ r. accepted_by nodes numbers.now r ≡ true)) }
+    ensures moment { (r : RequestOf) → result ≡ Ok (Some r) → r.moment ≤ 2 ^ 40 }
+{
+    match stream_line(line) {
+        Ok(StreamLine::Ride(request)) => {
+            if is_accepted(nodes, numbers, &request) {
+                Ok(Some(request))
+            } else {
+                Err(Ending::NotYet)
+            }
+        }
+        Ok(StreamLine::Move(_)) => Err(Ending::NotYet),
+        Ok(StreamLine::Nothing) => Ok(None),
+        Err(_) => Err(Ending::StreamText { line: line.number }),
     }
-    if request.riders < 1 || 16 < request.riders || numbers.contains(&request.no.0) {
-        return Err(Ending::NotYet);
-    }
-    Ok(request)
+}
+
+/// Whether a ride is between nodes, of 1 to 16 riders, and of a new number.
+fn is_accepted(nodes: u32, numbers: &BTreeSet<u64>, request: &Request) -> bool
+    ensures { result ≡ accepted_by nodes numbers.now request.now }
+{
+    is_node(nodes, request.pickup)
+        && is_node(nodes, request.dropoff)
+        && 1 <= request.riders
+        && request.riders <= 16
+        && !numbers.contains(&request.no.0)
+}
+
+/// Whether it is one of so many nodes.
+fn is_node(nodes: u32, node: NodeNo) -> bool
+    ensures { result ≡ is_node_of nodes node }
+{
+    1 <= node.0 && node.0 <= nodes
 }
 
 /// Adds a number to those that were accepted.
 fn remember(numbers: &mut BTreeSet<u64>, number: RequestNo) -> Result<(), Ending>
-    ensures added { OnOk result ((n : ℕ) → contains nat_cmp numbers.new n ≡ ((n == number.0) || contains nat_cmp numbers.old n)) }
+    ensures added { IsOk result → AreMore numbers.old number.0 numbers.new }
     ensures wanted { OnErr result (result ≡ Err Ending.NoMemory) }
 {
     match numbers.insert(number.0) {
@@ -102,10 +175,10 @@ fn answer_ride<K: Sink, L>(
     requires riders { request.riders ≤ 16 }
     requires version { fleet.old.version < 2 ^ 61 }
     requires walks { HaveLeastWalks graph.now fleet.old.cars }
-    ensures answered { OnOk result (IsRideAnswered graph.now fleet.old request fleet.new (K.taken sink.old) (K.taken sink.new)) }
-    ensures counted { K.faults sink.old ≤ K.faults sink.new }
+    ensures answered { RideAnswer graph.now fleet.old request result fleet.new (K.taken sink.old) (K.taken sink.new) }
     ensures unread { result ≡ Err Ending.ReadFault → ⊥ }
     ensures written { result ≡ Err Ending.WriteFault → Rose (K.faults sink.old) (K.faults sink.new) }
+    ensures counted { K.faults sink.old ≤ K.faults sink.new }
 {
     fleet.count_entry();
     let decision = decide(alloc, graph, fleet, &request, steps)?;

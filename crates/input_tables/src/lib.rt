@@ -6,8 +6,6 @@ mod faults;
 mod fleets;
 mod lines;
 mod records;
-#[cfg(test)]
-mod tests;
 
 pub use faults::{FleetFault, StreamFault};
 pub use fleets::read_fleet;

@@ -2,6 +2,8 @@
 #![tactic(auto)]
 
 #[cfg(test)]
+mod endings;
+#[cfg(test)]
 mod rides;
 #[cfg(test)]
 mod runs;

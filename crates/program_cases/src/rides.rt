@@ -1,6 +1,7 @@
 ghost use Rattle.std.specs.Prelude.{◌<◌, ◌≤◌};
 
-use crate::runs::{FIRST, LINE, ONE, answers};
+use crate::runs::{FIRST, LINE, ONE, answers, ends};
+use dispatch_top::Status;
 use std::alloc::Global;
 use std::test::Fail;
 
@@ -215,6 +216,57 @@ fn a_full_list_has_64_stops(rt: HostRuntime) -> Result<(), Fail> {
         &rt,
         rt.alloc(),
         [LINE, fleet, stream.as_slice()],
+        output.as_slice(),
+    )
+}
+
+/// The K-th of rides from node 1 to node 1 at the moment 0.
+fn push_idle_ride(alloc: Global, text: &mut Vec<u8>, k: usize) -> Result<(), Fail> {
+    text.push(b'r')?;
+    push_number(alloc, text, k)?;
+    text.extend_from_slice(b" 1 1 0 1\n")?;
+    Ok(())
+}
+
+/// Its answer where stops take no time: the second goes behind the first pickup, and so does each after it.
+fn push_idle_answer(alloc: Global, text: &mut Vec<u8>, k: usize) -> Result<(), Fail> {
+    text.push(b'a')?;
+    push_number(alloc, text, k)?;
+    if k == 1 {
+        text.extend_from_slice(b" 1 0 0 0 0 0\ng 0 1\ng 1 1\n")?;
+    } else {
+        text.extend_from_slice(b" 1 0 0 0 0 0\ng 0 1\ng 1 1\ng 2 1\n")?;
+    }
+    Ok(())
+}
+
+fn idle_rides(alloc: Global, count: usize, answered: bool) -> Result<Vec<u8>, Fail>
+    requires { count < 1000 }
+{
+    let mut text = Vec::new(alloc);
+    for k in 1..count + 1 {
+        push_idle_ride(alloc, &mut text, k)?;
+        if answered {
+            push_idle_answer(alloc, &mut text, k)?;
+        }
+    }
+    Ok(text)
+}
+
+#[test]
+fn stops_may_take_no_time(rt: HostRuntime) -> Result<(), Fail> {
+    let stream = idle_rides(rt.alloc(), 33, false)?;
+    let answered = idle_rides(rt.alloc(), 32, true)?;
+    let output = joined(rt.alloc(), answered.as_slice(), b"r 33 1 1 0 1\nn 33\n")?;
+    let fleet = b"vehicle,start,seats,from,until\n1,1,16,0,1000\n";
+    let words = ["run", "--stop", "0", "graph", "fleet", "stream"];
+    let texts = [LINE, fleet, stream.as_slice()];
+    ends(
+        &rt,
+        rt.alloc(),
+        words.as_slice(),
+        texts,
+        Status::Done,
         output.as_slice(),
     )
 }

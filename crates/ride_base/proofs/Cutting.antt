@@ -30,7 +30,7 @@ judged_step true c line rest = refl
 judged_step false true line rest = refl
 judged_step false false line rest = refl
 
-judged_is : (room size : ℕ) (part line : List ℕ) (rest : List Piece) → judged room size part line rest ≡ after_stop (stop_of (length part) size room) line rest
+pub judged_is : (room size : ℕ) (part line : List ℕ) (rest : List Piece) → judged room size part line rest ≡ after_stop (stop_of (length part) size room) line rest
 judged_is room size part line rest = judged_step (nat_lt longest_line (length part) && nat_le longest_line room) (nat_lt room size) line rest
 
 -- a part that isn't the last is a line, or the text is refused there
@@ -42,14 +42,14 @@ pieces_cut : (room : ℕ) (x rest : List ℕ) → All (λ b. is_line_end b ≡ f
 pieces_cut room x rest h = ap (pieces_of_parts room) (slice_split_at is_line_end x 10 rest h refl) ∙ parts_cons room x (slice_split is_line_end rest) (omega (arith, length-slice_split is_line_end rest))
 
 -- what was read, cut at its first line end
-cut_at : (p : List ℕ) (at : ℕ) → position is_line_end p ≡ Some at → p ≡ take at p ++ 10 ∷ drop (at + 1) p
+pub cut_at : (p : List ℕ) (at : ℕ) → position is_line_end p ≡ Some at → p ≡ take at p ++ 10 ∷ drop (at + 1) p
 cut_at p at h =
     let f = found_is is_line_end p at h in
     let passes : is_line_end (get_or p at 0) ≡ true = ap (λ (k : ℕ). is_line_end (get_or p k 0)) (sym f.0) ∙ passes_at_first is_line_end p 0 (let e = f.0 in let l = f.1 in omega arith) in
     sym (take-append-drop at p) ∙ ap (λ (z : List ℕ). take at p ++ z) (drop_more p at 0 f.1 ∙ ap (λ (z : ℕ). z ∷ drop (at + 1) p) (eqb-true (get_or p at 0) 10 passes))
 
 -- the pieces of a text whose first line end was read
-pieces_at : (room : ℕ) (p left : List ℕ) (at : ℕ) → position is_line_end p ≡ Some at
+pub pieces_at : (room : ℕ) (p left : List ℕ) (at : ℕ) → position is_line_end p ≡ Some at
     → pieces room (p ++ left) ≡ after_stop (stop_of at (at + 1) room) (strip_carriage_return (take at p)) (pieces (room - (at + 1)) (drop (at + 1) p ++ left))
 pieces_at room p left at h =
     let whole : p ++ left ≡ take at p ++ 10 ∷ (drop (at + 1) p ++ left) = ap (λ (z : List ℕ). z ++ left) (cut_at p at h) ∙ append_assoc (take at p) (10 ∷ drop (at + 1) p) left in
@@ -59,7 +59,7 @@ pieces_at room p left at h =
     ∙ ap (λ (n : ℕ). after_stop (stop_of n (n + 1) room) (strip_carriage_return (take at p)) (pieces (room - (n + 1)) (drop (at + 1) p ++ left))) size
 
 -- what stands behind the first line end
-after_line_at : (p left : List ℕ) (at : ℕ) → position is_line_end p ≡ Some at → after_line (p ++ left) ≡ drop (at + 1) p ++ left
+pub after_line_at : (p left : List ℕ) (at : ℕ) → position is_line_end p ≡ Some at → after_line (p ++ left) ≡ drop (at + 1) p ++ left
 after_line_at p left at h =
     let f = found_is is_line_end p at h in
     let f0 = f.0 in
@@ -122,7 +122,7 @@ drop_all zero (x ∷ xs) h = absurd (omega arith)
 drop_all (suc n) [] h = refl
 drop_all (suc n) (x ∷ xs) h = drop_all n xs (omega arith)
 
-after_last_line : (p : List ℕ) → position is_line_end p ≡ None → after_line p ≡ []
+pub after_last_line : (p : List ℕ) → position is_line_end p ≡ None → after_line p ≡ []
 after_last_line p h = drop_all (position_or_len is_line_end p + 1) p (let e = none_found_is is_line_end p h in omega arith)
 
 -- a size without an end

@@ -1,6 +1,6 @@
-use Rattle.std.proofs.Common.{◌≡◌, List, sym, ap, subst, ◌∙◌, rules}
+use Rattle.std.proofs.Common.{List, sym, ap, subst}
 use Rattle.stop_schedule.specs.Fleets.{Car, Cars}
-use Rattle.dispatch_top.specs.Streams.{HaveLeastWalks}
+use Rattle.dispatch_top.specs.Streaming.{HaveLeastWalks}
 use Rattle.dispatch_top.proofs.stream.answer_ride.Goals as goal
 
 pub decide-requires-clause-least : goal.decide-requires-clause-least

@@ -1,46 +1,46 @@
-use Rattle.std.proofs.Common.{◌≡◌, ◌≤◌, refl, sym, ap, subst, ◌∙◌, rules, arith}
+use Rattle.std.proofs.Common.{None, refl, sym, ◌∙◌, rules, arith}
 use Rattle.ride_base.proofs.Shelves.{only_read-trans}
-use Rattle.stop_schedule.specs.Rates.{Rates}
-use Rattle.dispatch_top.specs.Opening.{opening_fleet}
-use Rattle.dispatch_top.proofs.Streaming.{first_way, further, at_end, walks_least}
+use Rattle.dispatch_top.proofs.Streaming.{first_way, further, ends_before_line, ends_with_none, ends_with_line, ends_in_ride, ends_at_once, still_least, handed_on}
+use Rattle.dispatch_top.specs.declared.ending.Ending.TheVariants.{NoMemory}
 use Rattle.dispatch_top.proofs.stream.answer_stream.Goals as goal
 
-pub loop-numbers-init : goal.loop-numbers-init
-loop-numbers-init g c = record {
+pub returns-in_err-fleet-clause-streamed : goal.returns-in_err-fleet-clause-streamed
+returns-in_err-fleet-clause-streamed g c = let e = handed_on c.from_residual.result NoMemory c.from_residual.ensures in rw e (ends_at_once c.args.graph.now c.args.params c.args.vehicles.now (g.S.Shelf.left c.args.shelf.now) None (g.K.Sink.taken c.args.sink.now) c.requires.vehicles)
+
+pub lines-init : goal.lines-init
+lines-init g c = record {
   shelf = record { begun = c.requires.begun; holds = refl; named = refl; counted = omega arith; sure = λ s. s; silent = λ s. refl };
-  on_its_way = first_way c.args.graph.now c.args.vehicles.now c.new-numbers.result c.in_ok-fleet.fleet c.new-lines.result (g.S.Shelf.left c.args.shelf.now) (g.K.Sink.taken c.args.sink.now)
-      (c.in_ok-fleet.ensures ∙ ap (λ (r : Rates). opening_fleet r c.args.vehicles.now) c.usual.ensures) c.new-numbers.ensures.empty c.new-lines.ensures;
+  on_its_way = first_way c.args.graph.now c.args.params c.args.vehicles.now c.new-numbers.result c.in_ok-fleet.fleet c.new-lines.result (g.S.Shelf.left c.args.shelf.now) (g.K.Sink.taken c.args.sink.now) c.in_ok-fleet.ensures c.new-numbers.ensures.empty c.new-lines.ensures;
   counted = search rules;
   unstopped = search rules;
+  given = search rules;
 }
 
-pub answer_ride-requires-clause-version : goal.answer_ride-requires-clause-version
-answer_ride-requires-clause-version g c = let h = c.loop-numbers.invariant.on_its_way.few in omega arith
+pub returns-in_err-line-clause-streamed : goal.returns-in_err-line-clause-streamed
+returns-in_err-line-clause-streamed g c = let e = handed_on c.from_residual-in_err-line.result c.in_err-line.field-0.0 c.from_residual-in_err-line.ensures in
+    rw e (ends_before_line c.args.graph.now c.args.params c.args.vehicles.now _ _ (g.S.Shelf.left c.args.shelf.now) c.next_line.new.lines _ (g.S.Shelf.left c.next_line.new.shelf) _ _ _ _ c.in_err-line.field-0.0 c.requires.vehicles c.lines.invariant.on_its_way c.in_err-line.ensures.given)
 
-pub answer_ride-requires-clause-walks : goal.answer_ride-requires-clause-walks
-answer_ride-requires-clause-walks g c = let w = c.loop-numbers.invariant.on_its_way in walks_least _ _ w.rides _ _ _ c.requires.vehicles w.answered
+pub returns-in_default-clause-streamed : goal.returns-in_default-clause-streamed
+returns-in_default-clause-streamed g c = ends_with_none c.args.graph.now c.args.params c.args.vehicles.now _ _ (g.S.Shelf.left c.args.shelf.now) _ _ (g.S.Shelf.left c.next_line.new.shelf) _ _ _ _ _ c.in_ok-line.field-0 c.requires.vehicles c.lines.invariant.on_its_way c.in_ok-line.ensures.given c.in_default.not-Some
 
-pub loop-numbers-preserved : goal.loop-numbers-preserved
-loop-numbers-preserved g c = record {
-  shelf = only_read-trans c.loop-numbers.invariant.shelf c.next_line.ensures.shelf;
-  on_its_way = further c.args.graph.now c.args.vehicles.now _ _ _ _ _ _ _ _ _ _ _ _ c.in-Some.line c.in_ok-request.request c.loop-numbers.invariant.on_its_way
-      (rw c.in-Some.is at c.in_ok-line.ensures.gives)
-      (rw c.in-Some.is at c.in_ok-line.ensures.falls)
-      c.in_ok-request.ensures.form
-      (record {
-        pickup = rw c.nodes.ensures.nodes at c.in_ok-request.ensures.pickup;
-        dropoff = rw c.nodes.ensures.nodes at c.in_ok-request.ensures.dropoff;
-        some_rider = c.in_ok-request.ensures.some;
-        few_riders = c.in_ok-request.ensures.few;
-        moment = c.in_ok-request.ensures.moment;
-      })
-      c.in_ok-request.ensures.new
-      c.in_ok-remember.ensures.added
-      c.in_ok-answer_ride.ensures.answered;
+pub answer_line-requires-clause-walks : goal.answer_line-requires-clause-walks
+answer_line-requires-clause-walks g c = still_least _ _ _ _ _ _ _ _ _ _ _ c.requires.vehicles c.lines.invariant.on_its_way
+
+pub returns-in_err-answer_line-clause-streamed : goal.returns-in_err-answer_line-clause-streamed
+returns-in_err-answer_line-clause-streamed g c = let e = handed_on c.from_residual-in_err-answer_line.result c.in_err-answer_line.field-0.0 c.from_residual-in_err-answer_line.ensures in
+    rw e (ends_in_ride c.args.graph.now c.args.params c.args.vehicles.now _ _ _ _ (g.S.Shelf.left c.args.shelf.now) _ _ (g.S.Shelf.left c.next_line.new.shelf) c.in-Some.line _ _ _ _ _ _ c.in_err-answer_line.field-0.0 c.requires.vehicles c.lines.invariant.on_its_way
+    (rw c.in-Some.is at c.in_ok-line.ensures.given) ((rw c.in-Some.is at c.in_ok-line.ensures.count).0) c.in_err-answer_line.ensures.answered c.in_err-answer_line.ensures.moments)
+
+pub returns-then-not-line-clause-streamed : goal.returns-then-not-line-clause-streamed
+returns-then-not-line-clause-streamed g c = ends_with_line c.args.graph.now c.args.params c.args.vehicles.now _ _ _ _ (g.S.Shelf.left c.args.shelf.now) _ _ (g.S.Shelf.left c.next_line.new.shelf) c.in-Some.line _ _ _ _ _ _ c.requires.vehicles c.lines.invariant.on_its_way
+    (rw c.in-Some.is at c.in_ok-line.ensures.given) ((rw c.in-Some.is at c.in_ok-line.ensures.count).0) c.if-not-line.true c.in_ok-answer_line.ensures.answered c.in_ok-answer_line.ensures.moments
+
+pub lines-preserved : goal.lines-preserved
+lines-preserved g c = record {
+  shelf = only_read-trans c.lines.invariant.shelf c.next_line.ensures.shelf;
+  on_its_way = further c.args.graph.now c.args.params c.args.vehicles.now _ _ _ _ (g.S.Shelf.left c.args.shelf.now) _ _ c.in-Some.line _ _ _ _ _ _ c.lines.invariant.on_its_way
+      (rw c.in-Some.is at c.in_ok-line.ensures.given) ((rw c.in-Some.is at c.in_ok-line.ensures.count).0) (rw c.in-Some.is at c.in_ok-line.ensures.falls) c.if-not-line.false c.in_ok-answer_line.ensures.answered c.in_ok-answer_line.ensures.moments;
   counted = search rules;
   unstopped = search rules;
+  given = (rw c.in-Some.is at c.in_ok-line.ensures.count).1 ∙ sym ((rw c.in-Some.is at c.in_ok-line.ensures.count).0);
 }
-
-pub returns-clause-answered : goal.returns-clause-answered
-returns-clause-answered g c =
-    at_end c.args.graph.now c.args.vehicles.now _ _ (g.S.Shelf.left c.args.shelf.now) c.in_ok-line.field-0 _ _ _ _ _ c.requires.vehicles c.loop-numbers.invariant.on_its_way c.in_default.not-Some c.in_ok-line.ensures.gives

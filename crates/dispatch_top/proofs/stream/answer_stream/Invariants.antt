@@ -1,19 +1,20 @@
-use Rattle.std.proofs.Common.{◌≡◌, ◌≤◌, [], None}
+use Rattle.std.proofs.Common.{◌≡◌, ◌≤◌, None}
 use Rattle.ride_base.specs.Outside.{OnlyRead}
-use Rattle.dispatch_top.specs.Ahead.{ahead}
-use Rattle.dispatch_top.specs.Forms.{largest_text}
+use Rattle.ride_base.specs.Reading.{unread}
 use Rattle.dispatch_top.proofs.Streaming.{IsOnItsWay}
 use Rattle.dispatch_top.proofs.stream.answer_stream.Given as goal
 
-abbrev pub invariant-loop-numbers : goal.invariant-loop-numbers
-invariant-loop-numbers g l =
+abbrev pub invariant-lines : goal.invariant-lines
+invariant-lines g l =
     let S = g.S.Shelf in
+    let K = g.K.Sink in
     record {
       shelf : OnlyRead S.IsBegun S.held S.names S.IsSure S.faults l.fn.shelf l.shelf;
-      on_its_way : IsOnItsWay l.graph l.vehicles l.numbers l.fleet (ahead (record { pending = []; given = 0; room = largest_text; stopped = None }) (S.left l.fn.shelf)) (ahead l.lines (S.left l.shelf)) l.lines.room (g.K.Sink.taken l.fn.sink) (g.K.Sink.taken l.sink);
-      counted : g.K.Sink.faults l.fn.sink ≤ g.K.Sink.faults l.sink;
+      on_its_way : IsOnItsWay l.graph l.fn.params l.vehicles l.numbers l.fleet (S.left l.fn.shelf) (unread l.lines (S.left l.shelf)) l.number l.lines.room (K.taken l.fn.sink) (K.taken l.sink);
+      counted : K.faults l.fn.sink ≤ K.faults l.sink;
       unstopped : l.lines.stopped ≡ None;
+      given : l.lines.given ≡ l.number;
     }
 
-abbrev pub decreases-loop-numbers : goal.decreases-loop-numbers
-decreases-loop-numbers g l = l.lines.room
+abbrev pub decreases-lines : goal.decreases-lines
+decreases-lines g l = l.lines.room

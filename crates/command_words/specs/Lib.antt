@@ -1,0 +1,4 @@
+pub mod Commands
+pub mod CommandSamples
+pub mod Reading
+pub mod Shown

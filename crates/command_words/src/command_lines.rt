@@ -1,0 +1,159 @@
+// Which form a command line is.
+ghost use Rattle.std.specs.Prelude.{◌≡◌, Bool, IfOk, Some, codes, drop, map, option_map};
+ghost use Rattle.std.specs.String.{string_bytes};
+ghost use Rattle.clap.specs.Words.{first_value, found_of, one_text};
+ghost use Rattle.clap.specs.Values.{bool_text};
+ghost use Rattle.command_words.specs.Commands.{form_of};
+ghost use Rattle.command_words.specs.Reading.{audit_by, audit_in, gen_by, gen_in, live_by, live_in, run_by, run_in, walk_by, walk_in};
+ghost use Rattle.command_words.specs.Shown.{shown_form};
+
+use crate::forms::Form;
+use crate::words;
+use clap::ArgMatches;
+use ride_base::{NoMemory, number};
+use std::alloc::Global;
+
+/// What the words of a command line ask for, without the program's own name. None where they are no command line.
+pub fn form<'a>(alloc: Global, words: &'a [String]) -> Result<Option<Form<'a>>, NoMemory>
+    ensures { IfOk result (λ f. option_map shown_form f ≡ form_of (map string_bytes words.entry.now)) }
+{
+    let Some(mode) = words.first() else {
+        return Ok(None);
+    };
+    match mode.as_str() {
+        "run" => run(alloc, words),
+        "audit" => audit(alloc, words),
+        "walk" => walk(alloc, words),
+        "gen" => city(alloc, words),
+        "live" => live(alloc, words),
+        _ => Ok(None),
+    }
+}
+
+fn run<'a>(alloc: Global, words: &'a [String]) -> Result<Option<Form<'a>>, NoMemory>
+    ensures { IfOk result (λ f. option_map shown_form f ≡ run_in (drop 1 (map string_bytes words.entry.now))) }
+{
+    let base = words::command(alloc, &["graph", "fleet", "stream"], &words::PARAMETERS)?;
+    let optioned = words::with_options(alloc, base, &["window"])?;
+    let command = words::with_flags(alloc, optioned, &["proof"])?;
+    match words::matches(command, words) {
+        Ok(Some(matches)) => Ok(run_of(&matches)),
+        Ok(None) => Ok(None),
+        Err(error) => Err(error),
+    }
+}
+
+fn run_of<'a>(matches: &ArgMatches<'a>) -> Option<Form<'a>>
+    ensures { (proof : Bool) → one_text (found_of matches.now) (codes "proof") ≡ Some (bool_text proof)
+        → option_map shown_form result ≡ run_by (first_value (found_of matches.now)) proof }
+{
+    let graph = matches.get_str("graph")?;
+    let fleet = matches.get_str("fleet")?;
+    let stream = matches.get_str("stream")?;
+    let params = words::params(matches)?;
+    let window = words::optional_number(matches, "window", 1, 4096)?;
+    Some(Form::Run {
+        graph,
+        fleet,
+        stream,
+        params,
+        window,
+        proof: matches.get_flag("proof"),
+    })
+}
+
+fn audit<'a>(alloc: Global, words: &'a [String]) -> Result<Option<Form<'a>>, NoMemory>
+    ensures { IfOk result (λ f. option_map shown_form f ≡ audit_in (drop 1 (map string_bytes words.entry.now))) }
+{
+    let command = words::command(alloc, &["graph", "fleet", "journal"], &words::PARAMETERS)?;
+    match words::matches(command, words) {
+        Ok(Some(matches)) => Ok(audit_of(&matches)),
+        Ok(None) => Ok(None),
+        Err(error) => Err(error),
+    }
+}
+
+fn audit_of<'a>(matches: &ArgMatches<'a>) -> Option<Form<'a>>
+    ensures { option_map shown_form result ≡ audit_by (first_value (found_of matches.now)) }
+{
+    let graph = matches.get_str("graph")?;
+    let fleet = matches.get_str("fleet")?;
+    let journal = matches.get_str("journal")?;
+    let params = words::params(matches)?;
+    Some(Form::Audit {
+        graph,
+        fleet,
+        journal,
+        params,
+    })
+}
+
+fn walk<'a>(alloc: Global, words: &'a [String]) -> Result<Option<Form<'a>>, NoMemory>
+    ensures { IfOk result (λ f. option_map shown_form f ≡ walk_in (drop 1 (map string_bytes words.entry.now))) }
+{
+    let command = words::command(alloc, &["graph", "from", "to"], &[])?;
+    match words::matches(command, words) {
+        Ok(Some(matches)) => Ok(walk_of(&matches)),
+        Ok(None) => Ok(None),
+        Err(error) => Err(error),
+    }
+}
+
+fn walk_of<'a>(matches: &ArgMatches<'a>) -> Option<Form<'a>>
+    ensures { option_map shown_form result ≡ walk_by (first_value (found_of matches.now)) }
+{
+    let graph = matches.get_str("graph")?;
+    let from = matches.get_str("from")?;
+    let to = matches.get_str("to")?;
+    let from = words::small_number_within(from, 0, u32::MAX)?;
+    let to = words::small_number_within(to, 0, u32::MAX)?;
+    Some(Form::Walk { graph, from, to })
+}
+
+fn city<'a>(alloc: Global, words: &'a [String]) -> Result<Option<Form<'a>>, NoMemory>
+    ensures { IfOk result (λ f. option_map shown_form f ≡ gen_in (drop 1 (map string_bytes words.entry.now))) }
+{
+    let command = words::command(alloc, &["number"], &[])?;
+    match words::matches(command, words) {
+        Ok(Some(matches)) => Ok(city_of(&matches)),
+        Ok(None) => Ok(None),
+        Err(error) => Err(error),
+    }
+}
+
+fn city_of<'a>(matches: &ArgMatches<'a>) -> Option<Form<'a>>
+    ensures { option_map shown_form result ≡ gen_by (first_value (found_of matches.now)) }
+{
+    let text = matches.get_str("number")?;
+    let number = number(text.as_bytes(), u64::MAX)?;
+    Some(Form::Gen { number })
+}
+
+fn live<'a>(alloc: Global, words: &'a [String]) -> Result<Option<Form<'a>>, NoMemory>
+    ensures { IfOk result (λ f. option_map shown_form f ≡ live_in (drop 1 (map string_bytes words.entry.now))) }
+{
+    let base = words::command(alloc, &["graph", "fleet", "stream"], &words::PARAMETERS)?;
+    let command = words::with_options(alloc, base, &["workers"])?;
+    match words::matches(command, words) {
+        Ok(Some(matches)) => Ok(live_of(&matches)),
+        Ok(None) => Ok(None),
+        Err(error) => Err(error),
+    }
+}
+
+fn live_of<'a>(matches: &ArgMatches<'a>) -> Option<Form<'a>>
+    ensures { option_map shown_form result ≡ live_by (first_value (found_of matches.now)) }
+{
+    let graph = matches.get_str("graph")?;
+    let fleet = matches.get_str("fleet")?;
+    let stream = matches.get_str("stream")?;
+    let params = words::params(matches)?;
+    let workers = words::small_number_of_option(matches, "workers", 1, 64, 2)?;
+    Some(Form::Live {
+        graph,
+        fleet,
+        stream,
+        params,
+        workers,
+    })
+}

@@ -1,0 +1,9 @@
+use Rattle.dispatch_top.specs.declared.words.Task.{Task as TaskOf}
+use Rattle.dispatch_top.specs.declared.words.Task.TheVariants as words
+use Rattle.dispatch_top.specs.Tasks.{Task, Answer, Later, Unknown}
+
+-- what a task of the code stands for
+abbrev pub asked_task : TaskOf → Task
+asked_task (words.Answer asked) = Answer (record { graph = asked.graph.now; fleet = asked.fleet.now; stream = asked.stream.now; rates = asked.params })
+asked_task words.Later = Later
+asked_task words.Unknown = Unknown

@@ -1,0 +1,112 @@
+use Rattle.std.specs.Prelude.{◌≡◌, ℕ, ◌+◌, ◌++◌, ◌||◌, ◌&&◌, ◌==◌, ◌≤◌, nat_le, not, Bool, true, cond, List, position, Option, Some, None, Result, Ok, Err, slice_get}
+use Rattle.std.specs.BTreeSet.{BTreeSet, contains}
+use Rattle.std.specs.Ordering.{nat_cmp}
+use Rattle.ride_base.specs.Outside.{Takes, TakesFront}
+use Rattle.ride_base.specs.Pieces.{is_line_end}
+use Rattle.ride_base.specs.Reading.{Tells}
+use Rattle.ride_base.specs.declared.lines.Line.{Line}
+use Rattle.ride_base.specs.declared.lines.LineFault.{LineFault}
+use Rattle.ride_base.specs.declared.lines.LineFault.TheVariants.{Fault, Long, Large, NoMemory as LineNoMemory}
+use Rattle.road_graph.specs.Roads.{Roads, is_node}
+use Rattle.stop_schedule.specs.declared.request.Request.{Request}
+use Rattle.stop_schedule.specs.declared.vehicle.Vehicle.{Vehicle}
+use Rattle.stop_schedule.specs.Fleets.{Car, Cars}
+use Rattle.stop_schedule.specs.Keeping.{HasLeastWalks}
+use Rattle.stop_schedule.specs.Rates.{Rates}
+use Rattle.input_tables.specs.declared.lines.StreamLine.{StreamLine}
+use Rattle.input_tables.specs.declared.lines.StreamLine.TheVariants.{Ride, Move, Nothing}
+use Rattle.input_tables.specs.declared.faults.StreamFault.{StreamFault}
+use Rattle.insertion_cost.specs.declared.decision.Decision.{Decision}
+use Rattle.board_core.specs.declared.entry.Submitted.TheVariants.{Accepted}
+use Rattle.board_core.specs.declared.entry.Entry.TheVariants.{Submit, Commit}
+use Rattle.journal_text.specs.Groups.{group}
+use Rattle.dispatch_top.specs.declared.ending.Ending.{Ending}
+use Rattle.dispatch_top.specs.declared.ending.Ending.TheVariants.{NotYet, GraphText, FleetText, StreamText, ReadFault, WriteFault, NoMemory}
+use Rattle.dispatch_top.specs.Deciding.{Decides}
+use Rattle.dispatch_top.specs.Runs.{EndsAt, EndsEarly, EndsUnread}
+use Rattle.dispatch_top.specs.Streams.{AtEnd, AtLater, AtBad}
+
+-- What the parts of a run over a stream do.
+
+-- the fleet with one entry more
+abbrev pub counted : Cars → Cars
+counted fleet = record fleet { version = fleet.version + 1 }
+
+-- each leg of each schedule is a least walk
+abbrev pub HaveLeastWalks : Roads → List Car → Type 0
+HaveLeastWalks g cars = (place : ℕ) (car : Car) → slice_get cars place ≡ Some car → HasLeastWalks g car.plan
+
+-- a ride that an open board accepts, but for its number
+pub record IsFit (nodes : ℕ) (r : Request) : Type 0 where
+  pub pickup : is_node nodes r.pickup ≡ true
+  pub dropoff : is_node nodes r.dropoff ≡ true
+  pub some_rider : 1 ≤ r.riders
+  pub few_riders : r.riders ≤ 16
+  pub moment : r.moment ≤ 1099511627776
+
+-- the numbers with one more
+abbrev pub AreMore : BTreeSet ℕ → ℕ → BTreeSet ℕ → Type 0
+AreMore old number new = (n : ℕ) → contains nat_cmp new n ≡ ((n == number) || contains nat_cmp old n)
+
+-- the lines of the two entries of a ride
+abbrev pub ride_group : Request → Decision → List ℕ
+ride_group r decision = group (Submit r Accepted) ++ group (Commit r.no decision)
+
+-- A ride was accepted and got its answer, and so much of the lines of both entries was taken.
+pub record IsRideAnswered (g : Roads) (old : Cars) (r : Request) (new : Cars) (Took : List ℕ → Type 0) : Type 0 where
+  pub decision : Decision
+  pub decides : Decides g (counted old) r decision new
+  pub took : Took (ride_group r decision)
+
+-- what an answer for a ride says of what was taken
+abbrev pub RideAnswer : Roads → (old : Cars) → Request → Result (Unit {0}) Ending → (new : Cars) → (taken took : Option (List ℕ)) → Type 0
+RideAnswer g old r (Ok done) new taken took = IsRideAnswered g old r new (Takes taken took)
+RideAnswer g old r (Err WriteFault) new taken took = IsRideAnswered g old r new (TakesFront taken took)
+RideAnswer g old r (Err NoMemory) new taken took = took ≡ taken
+RideAnswer g old r (Err NotYet) new taken took = ⊥
+RideAnswer g old r (Err (GraphText line)) new taken took = ⊥
+RideAnswer g old r (Err (FleetText row)) new taken took = ⊥
+RideAnswer g old r (Err (StreamText line)) new taken took = ⊥
+RideAnswer g old r (Err ReadFault) new taken took = ⊥
+
+-- a ride that an open board at the clock 0 accepts, where the numbers of earlier ones are these
+abbrev pub accepted_by : (nodes : ℕ) → BTreeSet ℕ → Request → Bool
+accepted_by nodes numbers r = is_node nodes r.pickup && is_node nodes r.dropoff && nat_le 1 r.riders && nat_le r.riders 16 && not (contains nat_cmp numbers r.no.0)
+
+-- what a line that says this asks for: a ride, nothing, or what ends the run
+abbrev pub asked_by : (nodes : ℕ) → BTreeSet ℕ → (line : ℕ) → Result StreamLine StreamFault → Result (Option Request) Ending
+asked_by nodes numbers line (Ok (Ride r)) = cond (accepted_by nodes numbers r) (Ok (Some r)) (Err NotYet)
+asked_by nodes numbers line (Ok (Move now)) = Err NotYet
+asked_by nodes numbers line (Ok Nothing) = Ok None
+asked_by nodes numbers line (Err fault) = Err (StreamText line)
+
+-- what an answer for a line that asks for this says
+abbrev pub LineAnswer : Roads → (numbers : BTreeSet ℕ) → (old : Cars) → Result (Option Request) Ending → Result (Unit {0}) Ending → (more : BTreeSet ℕ) → (new : Cars) → (taken took : Option (List ℕ)) → Type 0
+LineAnswer g numbers old (Err ending) result more new taken took = (result ≡ Err ending) × (took ≡ taken)
+LineAnswer g numbers old (Ok None) result more new taken took = (result ≡ Ok tt) × (more ≡ numbers) × (new ≡ old) × (took ≡ taken)
+LineAnswer g numbers old (Ok (Some r)) result more new taken took = (result ≡ Ok tt → AreMore numbers r.no.0 more) × RideAnswer g old r result new taken took
+
+-- how a run ends at a fault of its stream before this line
+abbrev pub ending_of_line : (line : ℕ) → LineFault → Ending
+ending_of_line line Fault = ReadFault
+ending_of_line line Long = StreamText line
+ending_of_line line Large = StreamText line
+ending_of_line line LineNoMemory = NoMemory
+
+-- What an answer for the line after so many says of the text that was not given before, and then isn't given. Where the shelf failed, no
+-- line end is among the bytes that were read and not given.
+abbrev pub LineGiven : (number room : ℕ) → Option (List ℕ) → Result (Option Line) Ending → (room' : ℕ) → Option (List ℕ) → (pending : List ℕ) → Type 0
+LineGiven number room before (Ok line) room' after pending = Tells room before (Ok line) room' after
+LineGiven number room before (Err ending) room' after pending =
+    (fault : LineFault) × (ending ≡ ending_of_line (number + 1) fault) × Tells room before (Err fault) room' after × (fault ≡ Fault → position is_line_end pending ≡ None)
+
+-- how the answers to a stream end
+abbrev pub Streamed : Roads → Rates → List Vehicle → (Says : (List ℕ → Type 0) → Type 0) → Result (Unit {0}) Ending → (left old new : Option (List ℕ)) → Type 0
+Streamed g rates vehicles Says (Ok done) left old new = EndsAt g rates vehicles AtEnd Says old new
+Streamed g rates vehicles Says (Err NotYet) left old new = EndsAt g rates vehicles AtLater Says old new
+Streamed g rates vehicles Says (Err (GraphText line)) left old new = ⊥
+Streamed g rates vehicles Says (Err (FleetText row)) left old new = ⊥
+Streamed g rates vehicles Says (Err (StreamText line)) left old new = EndsAt g rates vehicles (AtBad line) Says old new
+Streamed g rates vehicles Says (Err ReadFault) left old new = EndsUnread g rates vehicles Says left old new
+Streamed g rates vehicles Says (Err WriteFault) left old new = EndsEarly g rates vehicles Says (TakesFront old new)
+Streamed g rates vehicles Says (Err NoMemory) left old new = EndsEarly g rates vehicles Says (Takes old new)
