@@ -1,8 +1,18 @@
-// Tests of the lower layers: texts, versions of lists, and prices.
+// Tests of the lower layers: texts, roads, searches, versions of lists, schedules, and prices.
 #![tactic(auto)]
 
 #[cfg(test)]
+mod cities;
+#[cfg(test)]
+mod graphs;
+#[cfg(test)]
+mod plans;
+#[cfg(test)]
 mod prices;
+#[cfg(test)]
+mod schedules;
+#[cfg(test)]
+mod searches;
 #[cfg(test)]
 mod texts;
 #[cfg(test)]

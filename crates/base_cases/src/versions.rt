@@ -1,4 +1,4 @@
-ghost use Rattle.std.specs.Prelude.{◌<◌, ◌≤◌};
+ghost use Rattle.std.specs.Prelude.{◌<◌, ◌≤◌, length};
 
 #[cfg(test)]
 mod tests {
@@ -29,16 +29,27 @@ mod tests {
         crosses_threads(version);
     }
 
+    fn check_share(rt: &impl Abort, version: &VersionArray<u32>) -> Result<(), NoMemory> {
+        let same = version.share()?;
+        assert!(rt; holds(&same, &[7, 9, 7]));
+        versions_cross_threads(&same);
+        Ok(())
+    }
+
+    fn check_change(rt: &impl Abort, alloc: Global, old: &VersionArray<u32>) -> Result<(), NoMemory>
+        requires { 1 < length old.now }
+    {
+        assert!(rt; holds(old, &[7, 7, 7]));
+        let new = old.with(alloc, 1, 9)?;
+        assert!(rt; holds(&new, &[7, 9, 7]));
+        assert!(rt; holds(old, &[7, 7, 7]));
+        check_share(rt, &new)
+    }
+
     #[test]
     fn the_old_version_stays(rt: HostRuntime) -> Result<(), Fail> {
         let old = VersionArray::filled(rt.alloc(), 3, 7u32)?;
-        assert!(rt; holds(&old, &[7, 7, 7]));
-        let new = old.with(rt.alloc(), 1, 9)?;
-        let same = new.share()?;
-        assert!(rt; holds(&new, &[7, 9, 7]));
-        assert!(rt; holds(&old, &[7, 7, 7]));
-        assert!(rt; holds(&same, &[7, 9, 7]));
-        versions_cross_threads(&same);
+        check_change(&rt, rt.alloc(), &old)?;
         Ok(())
     }
 
@@ -88,21 +99,36 @@ mod tests {
         Ok(())
     }
 
+    // Whether each place holds a 5, but for the last, which holds this.
+    fn ends_with(version: &VersionArray<u64>, last: u64) -> bool {
+        let len = version.len();
+        for place in 0..len {
+            let wanted = if place + 1 == len { last } else { 5 };
+            if *version.get(place) != wanted {
+                return false;
+            }
+        }
+        true
+    }
+
+    fn check_last(rt: &impl Abort, alloc: Global, old: &VersionArray<u64>) -> Result<(), NoMemory>
+        requires { 0 < length old.now }
+    {
+        let new = old.with(alloc, old.len() - 1, 6)?;
+        assert_eq!(rt; new.len(), old.len());
+        assert!(rt; ends_with(&new, 6));
+        assert!(rt; ends_with(old, 5));
+        Ok(())
+    }
+
     fn changed_at_its_end(rt: &impl Abort, alloc: Global, len: usize) -> Result<(), NoMemory>
         requires { len ≤ MOST_PLACES }
     {
         let old = VersionArray::filled(alloc, len, 5u64)?;
         assert_eq!(rt; old.len(), len);
-        if len == 0 {
-            return Ok(());
-        }
-        assert_eq!(rt; *old.get(0), 5);
-        assert_eq!(rt; *old.get(len - 1), 5);
-        let new = old.with(alloc, len - 1, 6)?;
-        assert_eq!(rt; new.len(), len);
-        for place in 0..len {
-            assert_eq!(rt; *old.get(place), 5);
-            assert_eq!(rt; *new.get(place), if place == len - 1 { 6 } else { 5 });
+        assert!(rt; ends_with(&old, 5));
+        if len > 0 {
+            check_last(rt, alloc, &old)?;
         }
         Ok(())
     }

@@ -103,6 +103,6 @@ pub record AreKept (g : Roads) (first : Board) (history : List Entry) (last : Bo
   pub riders : (a : Assigned) (r : Request) (promise : Promise) (after : List Entry) → WasAssigned g first history a r promise after
       → (car : Car) × (slice_get last.fleet.cars a.offer.place ≡ Some car) × (car.no ≡ a.offer.no) × HasRider last.fleet.rates car.plan (served_through a.offer.no after) r promise
 
--- the promises are kept after every front of the history, over a graph with the first board's number of nodes
+-- the promises are kept after every prefix of the history, over a graph with the first board's number of nodes
 abbrev pub KeepsPromises : Roads → Board → List Entry → Type 0
 KeepsPromises g first history = (done rest : List Entry) (last : Board) → history ≡ done ++ rest → Legal g first done last → AreKept g first done last

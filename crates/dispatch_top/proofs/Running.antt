@@ -1,4 +1,4 @@
-use Rattle.std.proofs.Common.{◌≡◌, ℕ, List, [], ◌∷◌, ◌++◌, Option, Some, Result, Ok, Err, refl, sym, ap, subst, ◌∙◌, arith, append_assoc, append-nil, inl, inr}
+use Rattle.std.proofs.Common.{◌≡◌, ℕ, List, [], ◌∷◌, ◌++◌, Option, Some, Result, Ok, Err, refl, sym, ap, subst, ◌∙◌, arith, append_assoc, append-nil, inl, inr, ◌≤◌}
 use Rattle.ride_base.specs.Outside.{Held, Untold, Absent, Text, Begins}
 use Rattle.ride_base.specs.Told.{WhereTold}
 use Rattle.ride_base.specs.declared.outside.BeginFault.{BeginFault}
@@ -13,35 +13,35 @@ use Rattle.stop_schedule.specs.Rates.{Rates}
 use Rattle.input_tables.specs.declared.faults.FleetFault.{FleetFault}
 use Rattle.input_tables.specs.declared.faults.FleetFault.TheVariants as fleet
 use Rattle.input_tables.specs.Fleets.{fleet_of}
-use Rattle.input_tables.specs.Refusals.{IsRefusal as IsFleetRefusal}
+use Rattle.input_tables.specs.Refusals.{IsRefusal as IsFleetRefusal, IsReadWithin}
 use Rattle.dispatch_top.specs.declared.ending.Ending.{Ending}
 use Rattle.dispatch_top.specs.declared.ending.Ending.TheVariants.{NotYet, GraphText, FleetText, StreamText, ReadFault, WriteFault, NoMemory}
 use Rattle.dispatch_top.specs.declared.status.Status.TheVariants as status
 use Rattle.dispatch_top.specs.Endings.{ended_as, status_of, ending_of_begin, ending_of_graph, ending_of_fleet}
-use Rattle.dispatch_top.specs.Runs.{EndsAt, EndsEarly, EndsUnread, AfterReading, OfHeld, Ends, HasBadFleet}
+use Rattle.dispatch_top.specs.Runs.{EndsAt, EndsEarly, EndsUnread, AfterReading, OfHeld, Ends, HasBadFleet, HasBadGraph, HasGraph}
 use Rattle.dispatch_top.specs.Streaming.{Streamed}
 use Rattle.dispatch_top.specs.Streams.{StreamEnd, rides_of}
-use Rattle.dispatch_top.specs.Tasks.{Answering, Task, Answer, BeganInOrder, BeganFewer}
+use Rattle.dispatch_top.specs.Tasks.{Answering, Task, Answer, BeganInOrder, Began}
 
 abbrev pub run_of : (graph fleet stream : List ℕ) → Rates → Answering
 run_of graph fleet stream rates = record { graph = graph; fleet = fleet; stream = stream; rates = rates }
 
 -- The names that are begun, in order.
 
-pub none_begun : (a : Answering) (old new : List (List ℕ)) → new ≡ old → BeganFewer a old new
-none_begun a old new e = (0, omega arith, e ∙ sym (append-nil old))
+pub none_begun : (a : Answering) (old new : List (List ℕ)) → new ≡ old → Began 0 a old new
+none_begun a old new e = e ∙ sym (append-nil old)
 
-pub one_begun : (a : Answering) (old new : List (List ℕ)) → new ≡ old ++ a.graph ∷ [] → BeganFewer a old new
-one_begun a old new e = (1, omega arith, e)
+pub one_begun : (a : Answering) (old new : List (List ℕ)) → new ≡ old ++ a.graph ∷ [] → Began 1 a old new
+one_begun a old new e = e
 
-pub two_begun : (a : Answering) (old new : List (List ℕ)) → new ≡ (old ++ a.graph ∷ []) ++ a.fleet ∷ [] → BeganFewer a old new
-two_begun a old new e = (2, omega arith, e ∙ append_assoc old (a.graph ∷ []) (a.fleet ∷ []))
+pub two_begun : (a : Answering) (old new : List (List ℕ)) → new ≡ (old ++ a.graph ∷ []) ++ a.fleet ∷ [] → Began 2 a old new
+two_begun a old new e = e ∙ append_assoc old (a.graph ∷ []) (a.fleet ∷ [])
 
-pub three_begun : (a : Answering) (old new : List (List ℕ)) → new ≡ ((old ++ a.graph ∷ []) ++ a.fleet ∷ []) ++ a.stream ∷ [] → BeganInOrder a old new
-three_begun a old new e = (3, omega arith, e ∙ ap (λ (l : List (List ℕ)). l ++ a.stream ∷ []) (append_assoc old (a.graph ∷ []) (a.fleet ∷ [])) ∙ append_assoc old (a.graph ∷ a.fleet ∷ []) (a.stream ∷ []))
+pub three_begun : (a : Answering) (old new : List (List ℕ)) → new ≡ ((old ++ a.graph ∷ []) ++ a.fleet ∷ []) ++ a.stream ∷ [] → Began 3 a old new
+three_begun a old new e = e ∙ ap (λ (l : List (List ℕ)). l ++ a.stream ∷ []) (append_assoc old (a.graph ∷ []) (a.fleet ∷ [])) ∙ append_assoc old (a.graph ∷ a.fleet ∷ []) (a.stream ∷ [])
 
-pub fewer : (a : Answering) (old new : List (List ℕ)) → BeganFewer a old new → BeganInOrder a old new
-fewer a old new h = let l = h.1 in (h.0, omega arith, h.2)
+pub began : (k : ℕ) (a : Answering) (old new : List (List ℕ)) → k ≤ 3 → Began k a old new → BeganInOrder a old new
+began k a old new l h = (k, l, h)
 
 -- what is left of a text whose name is held is all of it
 left_whole : (held : Held) (left : Option (List ℕ)) (text : List ℕ) → Begins held left → held ≡ Text text → left ≡ Some text
@@ -55,29 +55,45 @@ of_held P held name left b w text e = subst (λ (o : Option (List ℕ)). WhereTo
 
 -- a fault of the graph
 pub graph_fault : (held : List ℕ → Held) (a : Answering) (left : Option (List ℕ)) (fault : GraphFault) (IsBegun : Type 0) (left' : Option (List ℕ)) (old_names new_names : List (List ℕ)) (old new : Option (List ℕ))
-    → Begins (held a.graph) left → (IsRefusal fault → WhereTold left (λ text. graph_of text ≡ Err fault)) → BeganFewer a old_names new_names → new ≡ old
+    → Begins (held a.graph) left → (IsRefusal fault → WhereTold left (λ text. graph_of text ≡ Err fault)) → Began 1 a old_names new_names → new ≡ old
     → Ends held a (status_of (ending_of_graph fault)) IsBegun left' old_names new_names old new
-graph_fault held a left graph.Fault IsBegun left' old_names new_names old new b r n s = inl (s, λ _. n)
-graph_fault held a left (graph.Form line) IsBegun left' old_names new_names old new b r n s = (λ text e. (graph.Form line, of_held (λ t. graph_of t ≡ Err (graph.Form line)) held a.graph left b (r tt) text e, refl), s)
-graph_fault held a left (graph.Count line said found) IsBegun left' old_names new_names old new b r n s =
-    (λ text e. (graph.Count line said found, of_held (λ t. graph_of t ≡ Err (graph.Count line said found)) held a.graph left b (r tt) text e, refl), s)
-graph_fault held a left (graph.Node line) IsBegun left' old_names new_names old new b r n s = (λ text e. (graph.Node line, of_held (λ t. graph_of t ≡ Err (graph.Node line)) held a.graph left b (r tt) text e, refl), s)
-graph_fault held a left (graph.Weight line) IsBegun left' old_names new_names old new b r n s = (λ text e. (graph.Weight line, of_held (λ t. graph_of t ≡ Err (graph.Weight line)) held a.graph left b (r tt) text e, refl), s)
-graph_fault held a left (graph.Limit line) IsBegun left' old_names new_names old new b r n s = (λ text e. (graph.Limit line, of_held (λ t. graph_of t ≡ Err (graph.Limit line)) held a.graph left b (r tt) text e, refl), s)
-graph_fault held a left graph.NoMemory IsBegun left' old_names new_names old new b r n s = inl s
+graph_fault held a left fault IsBegun left' old_names new_names old new b r n s = on fault r
+  where
+    bad : (f : GraphFault) (line : ℕ) → WhereTold left (λ text. graph_of text ≡ Err f) → ending_of_graph f ≡ GraphText line → HasBadGraph held a line
+    bad f line q e = λ text k. (f, of_held (λ t. graph_of t ≡ Err f) held a.graph left b q text k, e)
 
--- a text couldn't be begun
-pub begin_fault : (held : List ℕ → Held) (a : Answering) (fault : BeginFault) (IsBegun : Type 0) (left : Option (List ℕ)) (old_names new_names : List (List ℕ)) (old new : Option (List ℕ))
-    → (fault ≡ Failed → IsBegun → ⊥) → new ≡ old → Ends held a (status_of (ending_of_begin fault)) IsBegun left old_names new_names old new
-begin_fault held a Failed IsBegun left old_names new_names old new h s = inl (s, λ b. absurd (h refl b))
-begin_fault held a BeginNoMemory IsBegun left old_names new_names old new h s = inl s
+    on : (f : GraphFault) → (IsRefusal f → WhereTold left (λ text. graph_of text ≡ Err f)) → Ends held a (status_of (ending_of_graph f)) IsBegun left' old_names new_names old new
+    on graph.Fault q = inl (n, s)
+    on (graph.Form line) q = (n, bad (graph.Form line) line (q tt) refl, s)
+    on (graph.Count line said found) q = (n, bad (graph.Count line said found) line (q tt) refl, s)
+    on (graph.Node line) q = (n, bad (graph.Node line) line (q tt) refl, s)
+    on (graph.Weight line) q = (n, bad (graph.Weight line) line (q tt) refl, s)
+    on (graph.Limit line) q = (n, bad (graph.Limit line) line (q tt) refl, s)
+    on graph.NoMemory q = inl s
+
+-- the graph couldn't be begun
+pub begin_graph_fault : (held : List ℕ → Held) (a : Answering) (fault : BeginFault) (IsBegun : Type 0) (left : Option (List ℕ)) (old_names new_names : List (List ℕ)) (old new : Option (List ℕ))
+    → (fault ≡ Failed → new_names ≡ old_names ++ a.graph ∷ []) → new ≡ old → Ends held a (status_of (ending_of_begin fault)) IsBegun left old_names new_names old new
+begin_graph_fault held a Failed IsBegun left old_names new_names old new n s = inl (one_begun a old_names new_names (n refl), s)
+begin_graph_fault held a BeginNoMemory IsBegun left old_names new_names old new n s = inl s
+
+has_graph : (held : List ℕ → Held) (a : Answering) (g : Roads) (graph_left : Option (List ℕ)) → Begins (held a.graph) graph_left → WhereTold graph_left (λ text. graph_of text ≡ Ok g) → HasGraph held a
+has_graph held a g graph_left b w = record { roads = g; graph_read = of_held (λ t. graph_of t ≡ Ok g) held a.graph graph_left b w }
+
+-- the fleet couldn't be begun
+pub begin_fleet_fault : (held : List ℕ → Held) (a : Answering) (g : Roads) (graph_left : Option (List ℕ)) (fault : BeginFault) (IsBegun : Type 0) (left : Option (List ℕ)) (old_names mid_names new_names : List (List ℕ)) (old new : Option (List ℕ))
+    → Begins (held a.graph) graph_left → WhereTold graph_left (λ text. graph_of text ≡ Ok g) → mid_names ≡ old_names ++ a.graph ∷ [] → (fault ≡ Failed → new_names ≡ mid_names ++ a.fleet ∷ []) → (fault ≡ Failed → IsBegun → ⊥) → new ≡ old
+    → Ends held a (status_of (ending_of_begin fault)) IsBegun left old_names new_names old new
+begin_fleet_fault held a g graph_left Failed IsBegun left old_names mid_names new_names old new b w m n u s =
+    inr (inl (two_begun a old_names new_names (n refl ∙ ap (λ (l : List (List ℕ)). l ++ a.fleet ∷ []) m), has_graph held a g graph_left b w, λ i. absurd (u refl i), s))
+begin_fleet_fault held a g graph_left BeginNoMemory IsBegun left old_names mid_names new_names old new b w m n u s = inl s
 
 -- a fault of the fleet
 pub fleet_fault : (held held_1 : List ℕ → Held) (a : Answering) (g : Roads) (graph_left left : Option (List ℕ)) (fault : FleetFault) (IsBegun : Type 0) (left' : Option (List ℕ)) (old_names new_names : List (List ℕ)) (old new : Option (List ℕ))
     → Begins (held a.graph) graph_left → WhereTold graph_left (λ text. graph_of text ≡ Ok g) → held_1 ≡ held → Begins (held_1 a.fleet) left
-    → (IsFleetRefusal fault → WhereTold left (λ text. fleet_of g.nodes text ≡ Err fault)) → BeganFewer a old_names new_names → new ≡ old
+    → (IsFleetRefusal fault → WhereTold left (λ text. fleet_of g.nodes text ≡ Err fault)) → (fault ≡ fleet.Fault → WhereTold left (λ text. IsReadWithin text left')) → Began 2 a old_names new_names → new ≡ old
     → Ends held a (status_of (ending_of_fleet fault)) IsBegun left' old_names new_names old new
-fleet_fault held held_1 a g graph_left left fault IsBegun left' old_names new_names old new b w h c r n s = on fault r
+fleet_fault held held_1 a g graph_left left fault IsBegun left' old_names new_names old new b w h c r u n s = on fault r u
   where
     c' : Begins (held a.fleet) left
     c' = subst (λ (x : List ℕ → Held). Begins (x a.fleet) left) h c
@@ -89,32 +105,45 @@ fleet_fault held held_1 a g graph_left left fault IsBegun left' old_names new_na
       bad = λ text k. (f, of_held (λ t. fleet_of g.nodes t ≡ Err f) held a.fleet left c' q text k, e);
     }
 
-    on : (f : FleetFault) → (IsFleetRefusal f → WhereTold left (λ text. fleet_of g.nodes text ≡ Err f)) → Ends held a (status_of (ending_of_fleet f)) IsBegun left' old_names new_names old new
-    on fleet.Fault q = inl (s, λ _. n)
-    on fleet.Large q = (bad fleet.Large 0 (q tt) refl, s)
-    on fleet.Header q = (bad fleet.Header 0 (q tt) refl, s)
-    on (fleet.Form row) q = (bad (fleet.Form row) row (q tt) refl, s)
-    on (fleet.Range row) q = (bad (fleet.Range row) row (q tt) refl, s)
-    on (fleet.Double row) q = (bad (fleet.Double row) row (q tt) refl, s)
-    on fleet.NoMemory q = inl s
+    on : (f : FleetFault) → (IsFleetRefusal f → WhereTold left (λ text. fleet_of g.nodes text ≡ Err f)) → (f ≡ fleet.Fault → WhereTold left (λ text. IsReadWithin text left')) → Ends held a (status_of (ending_of_fleet f)) IsBegun left' old_names new_names old new
+    on fleet.Fault q v = inr (inl (n, has_graph held a g graph_left b w, λ i. of_held (λ t. IsReadWithin t left') held a.fleet left c' (v refl), s))
+    on fleet.Large q v = (n, bad fleet.Large 0 (q tt) refl, s)
+    on fleet.Header q v = (n, bad fleet.Header 0 (q tt) refl, s)
+    on (fleet.Form row) q v = (n, bad (fleet.Form row) row (q tt) refl, s)
+    on (fleet.Range row) q v = (n, bad (fleet.Range row) row (q tt) refl, s)
+    on (fleet.Double row) q v = (n, bad (fleet.Double row) row (q tt) refl, s)
+    on fleet.NoMemory q v = inl s
+
+both_read : (held held_1 : List ℕ → Held) (a : Answering) (g : Roads) (vehicles : List Vehicle) (graph_left fleet_left : Option (List ℕ)) {Came : Roads → List Vehicle → Type 0} → Begins (held a.graph) graph_left → WhereTold graph_left (λ text. graph_of text ≡ Ok g) → held_1 ≡ held
+    → Begins (held_1 a.fleet) fleet_left → WhereTold fleet_left (λ text. fleet_of g.nodes text ≡ Ok vehicles) → Came g vehicles → AfterReading held a Came
+both_read held held_1 a g vehicles graph_left fleet_left b w h c v came = record {
+  roads = g;
+  vehicles = vehicles;
+  graph_read = of_held (λ t. graph_of t ≡ Ok g) held a.graph graph_left b w;
+  fleet_read = of_held (λ t. fleet_of g.nodes t ≡ Ok vehicles) held a.fleet fleet_left (subst (λ (x : List ℕ → Held). Begins (x a.fleet) fleet_left) h c) v;
+  came = came;
+}
+
+-- the stream couldn't be begun
+pub begin_stream_fault : (held held_1 : List ℕ → Held) (a : Answering) (g : Roads) (vehicles : List Vehicle) (graph_left fleet_left : Option (List ℕ)) (fault : BeginFault) (IsBegun : Type 0) (left : Option (List ℕ)) (old_names mid_names new_names : List (List ℕ)) (old new : Option (List ℕ))
+    → Begins (held a.graph) graph_left → WhereTold graph_left (λ text. graph_of text ≡ Ok g) → held_1 ≡ held → Begins (held_1 a.fleet) fleet_left → WhereTold fleet_left (λ text. fleet_of g.nodes text ≡ Ok vehicles)
+    → mid_names ≡ (old_names ++ a.graph ∷ []) ++ a.fleet ∷ [] → (fault ≡ Failed → new_names ≡ mid_names ++ a.stream ∷ []) → (fault ≡ Failed → IsBegun → ⊥) → new ≡ old
+    → Ends held a (status_of (ending_of_begin fault)) IsBegun left old_names new_names old new
+begin_stream_fault held held_1 a g vehicles graph_left fleet_left Failed IsBegun left old_names mid_names new_names old new b w h c v m n u s =
+    inr (inr (three_begun a old_names new_names (n refl ∙ ap (λ (l : List (List ℕ)). l ++ a.stream ∷ []) m), both_read held held_1 a g vehicles graph_left fleet_left b w h c v (inl (u refl, s))))
+begin_stream_fault held held_1 a g vehicles graph_left fleet_left BeginNoMemory IsBegun left old_names mid_names new_names old new b w h c v m n u s = inl s
 
 -- the three texts were begun, and the stream ended so
 pub stream_ends : (held held_1 held_2 : List ℕ → Held) (a : Answering) (g : Roads) (vehicles : List Vehicle) (graph_left fleet_left left : Option (List ℕ)) (result : Result (Unit {0}) Ending) (IsBegun : Type 0) (left' : Option (List ℕ)) (old_names new_names : List (List ℕ)) (old new : Option (List ℕ))
     → Begins (held a.graph) graph_left → WhereTold graph_left (λ text. graph_of text ≡ Ok g) → held_1 ≡ held → Begins (held_1 a.fleet) fleet_left → WhereTold fleet_left (λ text. fleet_of g.nodes text ≡ Ok vehicles)
-    → held_2 ≡ held → Begins (held_2 a.stream) left → Streamed g a.rates vehicles (WhereTold left) result left' old new → Ends held a (ended_as result) IsBegun left' old_names new_names old new
-stream_ends held held_1 held_2 a g vehicles graph_left fleet_left left result IsBegun left' old_names new_names old new b w h c v k d s = on result s
+    → held_2 ≡ held → Begins (held_2 a.stream) left → Began 3 a old_names new_names → Streamed g a.rates vehicles (WhereTold left) result left' old new → Ends held a (ended_as result) IsBegun left' old_names new_names old new
+stream_ends held held_1 held_2 a g vehicles graph_left fleet_left left result IsBegun left' old_names new_names old new b w h c v k d n s = on result s
   where
     says : (P : List ℕ → Type 0) → WhereTold left P → OfHeld held a.stream P
     says P q = of_held P held a.stream left (subst (λ (x : List ℕ → Held). Begins (x a.stream) left) k d) q
 
     after : {Came : Roads → List Vehicle → Type 0} → Came g vehicles → AfterReading held a Came
-    after came = record {
-      roads = g;
-      vehicles = vehicles;
-      graph_read = of_held (λ t. graph_of t ≡ Ok g) held a.graph graph_left b w;
-      fleet_read = of_held (λ t. fleet_of g.nodes t ≡ Ok vehicles) held a.fleet fleet_left (subst (λ (x : List ℕ → Held). Begins (x a.fleet) fleet_left) h c) v;
-      came = came;
-    }
+    after came = both_read held held_1 a g vehicles graph_left fleet_left b w h c v came
 
     at : (end : StreamEnd) → EndsAt g a.rates vehicles end (WhereTold left) old new → EndsAt g a.rates vehicles end (OfHeld held a.stream) old new
     at end e = record { rides = e.rides; printed = e.printed; said = says (λ text. rides_of g.nodes text ≡ record { rides = e.rides; ends = end }) e.said; is_history = e.is_history; took = e.took }
@@ -126,23 +155,23 @@ stream_ends held held_1 held_2 a g vehicles graph_left fleet_left left result Is
     unread e = record { rides = e.rides; printed = e.printed; said = says _ e.said; is_history = e.is_history; took = e.took }
 
     on : (r : Result (Unit {0}) Ending) → Streamed g a.rates vehicles (WhereTold left) r left' old new → Ends held a (ended_as r) IsBegun left' old_names new_names old new
-    on (Ok done) e = after (at _ e)
-    on (Err NotYet) e = after (at _ e)
+    on (Ok done) e = ((n, after (at _ e.0)), says _ e.1)
+    on (Err NotYet) e = (n, after (at _ e))
     on (Err (GraphText line)) e = absurd e
     on (Err (FleetText row)) e = absurd e
-    on (Err (StreamText line)) e = after (at _ e)
-    on (Err ReadFault) e = inr (after (unread e))
-    on (Err WriteFault) e = after (early _ e)
+    on (Err (StreamText line)) e = (n, after (at _ e))
+    on (Err ReadFault) e = inr (inr (n, after (inr (unread e))))
+    on (Err WriteFault) e = (n, after (early _ e))
     on (Err NoMemory) e = inr (after (early _ e))
 
 -- the names after a fault of the second and the third begin
 pub second_names : (a : Answering) (old mid new : List (List ℕ)) (fault : BeginFault) → mid ≡ old ++ a.graph ∷ [] → (fault ≡ Failed → new ≡ mid ++ a.fleet ∷ []) → (fault ≡ BeginNoMemory → new ≡ mid) → BeganInOrder a old new
-second_names a old mid new Failed e h k = fewer a old new (two_begun a old new (h refl ∙ ap (λ (l : List (List ℕ)). l ++ a.fleet ∷ []) e))
-second_names a old mid new BeginNoMemory e h k = fewer a old new (one_begun a old new (k refl ∙ e))
+second_names a old mid new Failed e h k = began 2 a old new (omega arith) (two_begun a old new (h refl ∙ ap (λ (l : List (List ℕ)). l ++ a.fleet ∷ []) e))
+second_names a old mid new BeginNoMemory e h k = began 1 a old new (omega arith) (one_begun a old new (k refl ∙ e))
 
 pub third_names : (a : Answering) (old mid new : List (List ℕ)) (fault : BeginFault) → mid ≡ (old ++ a.graph ∷ []) ++ a.fleet ∷ [] → (fault ≡ Failed → new ≡ mid ++ a.stream ∷ []) → (fault ≡ BeginNoMemory → new ≡ mid) → BeganInOrder a old new
-third_names a old mid new Failed e h k = three_begun a old new (h refl ∙ ap (λ (l : List (List ℕ)). l ++ a.stream ∷ []) e)
-third_names a old mid new BeginNoMemory e h k = fewer a old new (two_begun a old new (k refl ∙ e))
+third_names a old mid new Failed e h k = began 3 a old new (omega arith) (three_begun a old new (h refl ∙ ap (λ (l : List (List ℕ)). l ++ a.stream ∷ []) e))
+third_names a old mid new BeginNoMemory e h k = began 2 a old new (omega arith) (two_begun a old new (k refl ∙ e))
 
 -- a run's names and parameters are those of its task
 pub same_run : (a b : Answering) (t : Task) → Answer a ≡ t → t ≡ Answer b → b ≡ a

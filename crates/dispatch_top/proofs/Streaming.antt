@@ -7,8 +7,9 @@ use Rattle.std.specs.Ordering.{nat_cmp}
 use Rattle.std.proofs.lemmas.Bool.{eq-eqb, ne_eqb, cases_eq, cond-true, cond-false}
 use Rattle.std.proofs.lemmas.Bool.Decides.{nat_tests}
 use Rattle.std.proofs.lemmas.List.Folds.{list_any-append}
-use Rattle.ride_base.specs.Outside.{Takes, TakesFront}
-use Rattle.ride_base.specs.Pieces.{Piece, Whole, TooLong, TooLarge, pieces, after_line, is_line_end, is_ended, ended_lines}
+use Rattle.ride_base.specs.Outside.{Takes, TakesPrefix}
+use Rattle.ride_base.specs.Pieces.{Piece, Whole, TooLong, TooLarge, pieces, after_line, is_line_end, is_ended, ended_lines, longest_line}
+use Rattle.ride_base.specs.Prefixes.{IsReadTo}
 use Rattle.ride_base.specs.Reader.{Reader}
 use Rattle.ride_base.specs.Reading.{Tells, unread}
 use Rattle.ride_base.specs.Told.{WhereTold}
@@ -34,7 +35,7 @@ use Rattle.dispatch_top.specs.Opening.{opening_fleet}
 use Rattle.dispatch_top.specs.Runs.{EndsAt, EndsEarly}
 use Rattle.dispatch_top.specs.Streaming.{AreMore, HaveLeastWalks, IsFit, LineAnswer, LineGiven, RideAnswer, Streamed, accepted_by, asked_by, ending_of_line, ride_group}
 use Rattle.dispatch_top.specs.Streams.{Rides, AtEnd, AtLater, AtBad, StreamEnd, rides_in, rides_of, from_line, onto_rides, no_more, is_accepted, stood_before, largest_text}
-use Rattle.dispatch_top.proofs.Fronts.{IsFrontOf, nothing_read, rides_left, front_more, lines_read, onto, all_ended}
+use Rattle.dispatch_top.proofs.Fronts.{IsFrontOf, nothing_read, rides_left, front_more, unread_from, onto}
 use Rattle.dispatch_top.proofs.Histories.{AreAnswered, one_more, ride_more, version_more, none_yet, took_nothing, takes_both, walks_least, is_history, with_ride}
 
 -- what was read of a stream that is told, and what is unread
@@ -313,18 +314,16 @@ ends_before_line g rates vehicles numbers fleet text reader before left number r
     some_more (Some told) None p = absurd p
     some_more (Some told) (Some rest) p = ((rides_in g.nodes w.rides (number + 1) (pieces room rest)).rides, ap (λ (r : Rides). r.rides) (rides_left g.nodes w.rides told rest number room p))
 
-    split : (l : Option (List ℕ)) (told rest : List ℕ) → unread reader l ≡ Some rest → (f : IsFrontOf g.nodes w.rides told rest number room) → position is_line_end reader.pending ≡ None
-        → (read left' : List ℕ) × (l ≡ Some left') × (told ≡ read ++ left') × (rides_in g.nodes [] 1 (map Whole (ended_lines read)) ≡ record { rides = w.rides; ends = AtEnd })
-    split None told rest e f h = cc
-    split (Some l) told rest e f h =
-        let same : reader.pending ++ l ≡ rest = cc in
-        (all_ended f.parts ++ reader.pending, l, refl, f.is_text ∙ ap (λ (x : List ℕ). all_ended f.parts ++ x) (sym same) ∙ sym (append_assoc (all_ended f.parts) reader.pending l), lines_read g.nodes w.rides told rest reader.pending number room f h)
+    split : (l : Option (List ℕ)) (told rest : List ℕ) → unread reader l ≡ Some rest → IsFrontOf g.nodes w.rides told rest number room → position is_line_end reader.pending ≡ None → length reader.pending ≤ longest_line
+        → (r : IsReadTo largest_text told l) × (rides_in g.nodes [] 1 (map Whole (ended_lines r.read)) ≡ record { rides = w.rides; ends = AtEnd })
+    split None told rest e f h short = cc
+    split (Some l) told rest e f h short = let same : rest ≡ reader.pending ++ l = cc in unread_from g.nodes w.rides told rest reader.pending l (Some l) number room f same refl h short
 
-    unread_said : (x y : Option (List ℕ)) → WhereTold x (λ told. IsPart g.nodes w.rides told y number room) → Tells room y (Err Fault) reader.room (unread reader left) → position is_line_end reader.pending ≡ None
-        → WhereTold x (λ told. (read rest : List ℕ) × (left ≡ Some rest) × (told ≡ read ++ rest) × (rides_in g.nodes [] 1 (map Whole (ended_lines read)) ≡ record { rides = w.rides; ends = AtEnd }))
-    unread_said None y p t h = tt
-    unread_said (Some told) None p t h = absurd p
-    unread_said (Some told) (Some rest) p t h = split left told rest t p h
+    unread_said : (x y : Option (List ℕ)) → WhereTold x (λ told. IsPart g.nodes w.rides told y number room) → Tells room y (Err Fault) reader.room (unread reader left) → position is_line_end reader.pending ≡ None → length reader.pending ≤ longest_line
+        → WhereTold x (λ told. (r : IsReadTo largest_text told left) × (rides_in g.nodes [] 1 (map Whole (ended_lines r.read)) ≡ record { rides = w.rides; ends = AtEnd }))
+    unread_said None y p t h short = tt
+    unread_said (Some told) None p t h short = absurd p
+    unread_said (Some told) (Some rest) p t h short = split left told rest t p h short
 
     long : (y : Option (List ℕ)) (rest : List ℕ) → Tells room y (Err Long) reader.room (unread reader left) → y ≡ Some rest → pieces room rest ≡ TooLong ∷ []
     long None rest t e = cc
@@ -334,31 +333,44 @@ ends_before_line g rates vehicles numbers fleet text reader before left number r
     large None rest t e = cc
     large (Some r) rest t e = let q : r ≡ rest = cc in ap (pieces room) (sym q) ∙ t.0
 
-    on : (fault : LineFault) → ending ≡ ending_of_line (number + 1) fault → Tells room before (Err fault) reader.room (unread reader left) → (fault ≡ Fault → position is_line_end reader.pending ≡ None)
+    on : (fault : LineFault) → ending ≡ ending_of_line (number + 1) fault → Tells room before (Err fault) reader.room (unread reader left) → (fault ≡ Fault → (position is_line_end reader.pending ≡ None) × (length reader.pending ≤ longest_line))
         → Streamed g rates vehicles (WhereTold text) (Err ending) left old mid
     on Fault e t h = subst (λ (x : Ending). Streamed g rates vehicles (WhereTold text) (Err x) left old mid) (sym e)
-        (record { rides = w.rides; printed = journal_of w.history; said = unread_said text before w.part t (h refl); is_history = is_history g rates vehicles w.rides fleet w.history v w.answered; took = w.took })
+        (record { rides = w.rides; printed = journal_of w.history; said = unread_said text before w.part t (h refl).0 (h refl).1; is_history = is_history g rates vehicles w.rides fleet w.history v w.answered; took = w.took })
     on Long e t h = subst (λ (x : Ending). Streamed g rates vehicles (WhereTold text) (Err x) left old mid) (sym e) (at (AtBad (number + 1)) (stop text TooLong before 0 w.part Long (λ rest q. long before rest t q) (λ m. refl)))
     on Large e t h = subst (λ (x : Ending). Streamed g rates vehicles (WhereTold text) (Err x) left old mid) (sym e) (at (AtBad (number + 1)) (stop text TooLarge before 0 w.part Large (λ rest q. large before rest t q) (λ m. refl)))
     on LineNoMemory e t h = subst (λ (x : Ending). Streamed g rates vehicles (WhereTold text) (Err x) left old mid) (sym e) (early (some_more text before w.part))
 
+nothing_left : (pending : List ℕ) (left : Option (List ℕ)) (reader : Reader) → reader.pending ≡ pending → unread reader left ≡ Some [] → left ≡ Some []
+nothing_left pending None reader e h = cc
+nothing_left [] (Some l) reader e h = let f : reader.pending ++ l ≡ [] = cc in ap (λ (x : List ℕ). Some (x ++ l)) (sym e) ∙ ap Some f
+nothing_left (b ∷ bs) (Some l) reader e h = let f : reader.pending ++ l ≡ [] = cc in let k : b ∷ (bs ++ l) ≡ [] = ap (λ (x : List ℕ). x ++ l) (sym e) ∙ f in cc
+
 -- no line more
-pub ends_with_none : (g : Roads) (rates : Rates) (vehicles : List Vehicle) (numbers : BTreeSet ℕ) (fleet : Cars) (text before after left : Option (List ℕ)) (number room room' : ℕ) (old mid : Option (List ℕ)) (line : Option Line)
-    → AreVehicles g.nodes vehicles → IsOnItsWay g rates vehicles numbers fleet text before number room old mid → Tells room before (Ok line) room' after → ((l : Line) → line ≡ Some l → ⊥)
+pub ends_with_none : (g : Roads) (rates : Rates) (vehicles : List Vehicle) (numbers : BTreeSet ℕ) (fleet : Cars) (text before left : Option (List ℕ)) (reader : Reader) (number room : ℕ) (old mid : Option (List ℕ)) (line : Option Line)
+    → AreVehicles g.nodes vehicles → IsOnItsWay g rates vehicles numbers fleet text before number room old mid → Tells room before (Ok line) reader.room (unread reader left) → ((l : Line) → line ≡ Some l → ⊥)
     → Streamed g rates vehicles (WhereTold text) (Ok tt) left old mid
-ends_with_none g rates vehicles numbers fleet text before after left number room room' old mid (Some line) v w t n = absurd (n line refl)
-ends_with_none g rates vehicles numbers fleet text before after left number room room' old mid None v w t n = record {
-  rides = w.rides;
-  printed = journal_of w.history;
-  said = all text before w.part t;
-  is_history = is_history g rates vehicles w.rides fleet w.history v w.answered;
-  took = w.took;
-}
+ends_with_none g rates vehicles numbers fleet text before left reader number room old mid (Some line) v w t n = absurd (n line refl)
+ends_with_none g rates vehicles numbers fleet text before left reader number room old mid None v w t n = (
+  record {
+    rides = w.rides;
+    printed = journal_of w.history;
+    said = all text before w.part t;
+    is_history = is_history g rates vehicles w.rides fleet w.history v w.answered;
+    took = w.took;
+  },
+  ended text before w.part t,
+)
   where
-    all : (x y : Option (List ℕ)) → WhereTold x (λ told. IsPart g.nodes w.rides told y number room) → Tells room y (Ok None) room' after → WhereTold x (λ told. rides_of g.nodes told ≡ record { rides = w.rides; ends = AtEnd })
+    all : (x y : Option (List ℕ)) → WhereTold x (λ told. IsPart g.nodes w.rides told y number room) → Tells room y (Ok None) reader.room (unread reader left) → WhereTold x (λ told. rides_of g.nodes told ≡ record { rides = w.rides; ends = AtEnd })
     all None y p t = tt
     all (Some told) None p t = absurd p
     all (Some told) (Some rest) p t = rides_left g.nodes w.rides told rest number room p ∙ ap (λ (l : List ℕ). onto w.rides (rides_in g.nodes w.rides (number + 1) (pieces room l))) t.0 ∙ end_of w.rides AtEnd
+
+    ended : (x y : Option (List ℕ)) → WhereTold x (λ told. IsPart g.nodes w.rides told y number room) → Tells room y (Ok None) reader.room (unread reader left) → WhereTold x (λ told. left ≡ Some [])
+    ended None y p t = tt
+    ended (Some told) None p t = absurd p
+    ended (Some told) (Some rest) p t = nothing_left reader.pending left reader refl t.1
 
 -- What the answer for a line left: these rides are answered, with the line's among them.
 pub record HasAnswered (g : Roads) (rates : Rates) (vehicles : List Vehicle) (numbers more : BTreeSet ℕ) (fleet next : Cars) (rides : List Request) (history : List Entry) (line : Line) (number : ℕ) (old new : Option (List ℕ)) : Type 0 where
@@ -440,20 +452,22 @@ further g rates vehicles numbers more fleet next text before after line number r
         subst (λ (o : Option (List ℕ)). IsPart g.nodes (w.rides ++ others) told o line.number room') (sym n.after_is) (subst (λ (k : ℕ). IsFrontOf g.nodes (w.rides ++ others) told (after_line n.rest) k room') (sym c) f)
 
 -- a last line that wasn't ended was answered
-pub ends_with_line : (g : Roads) (rates : Rates) (vehicles : List Vehicle) (numbers more : BTreeSet ℕ) (fleet next : Cars) (text before after left : Option (List ℕ)) (line : Line) (number room room' : ℕ) (old mid new : Option (List ℕ))
-    → AreVehicles g.nodes vehicles → IsOnItsWay g rates vehicles numbers fleet text before number room old mid → Tells room before (Ok (Some line)) room' after → line.number ≡ number + 1 → line.ended ≡ false
+pub ends_with_line : (g : Roads) (rates : Rates) (vehicles : List Vehicle) (numbers more : BTreeSet ℕ) (fleet next : Cars) (text before left : Option (List ℕ)) (reader : Reader) (line : Line) (number room : ℕ) (old mid new : Option (List ℕ))
+    → AreVehicles g.nodes vehicles → IsOnItsWay g rates vehicles numbers fleet text before number room old mid → Tells room before (Ok (Some line)) reader.room (unread reader left) → line.number ≡ number + 1 → line.ended ≡ false
     → LineAnswer g numbers fleet (asked_by g.nodes numbers line.number (stream_line_of line.bytes)) (Ok tt) more next mid new
     → ((r : Request) → asked_by g.nodes numbers line.number (stream_line_of line.bytes) ≡ Ok (Some r) → r.moment ≤ 2 ^ 40)
     → Streamed g rates vehicles (WhereTold text) (Ok tt) left old new
-ends_with_line g rates vehicles numbers more fleet next text before after left line number room room' old mid new v w t c ended a moments =
-    let h = has_answered g rates vehicles numbers more fleet next text before line number room old mid new w c a moments in
-    record {
-      rides = w.rides ++ h.others;
-      printed = journal_of h.extended;
-      said = on h.others h.goes text w.part;
-      is_history = is_history g rates vehicles (w.rides ++ h.others) next h.extended v h.answered;
-      took = h.took;
-    }
+ends_with_line g rates vehicles numbers more fleet next text before left reader line number room old mid new v w t c ended a moments =
+    let h = has_answered g rates vehicles numbers more fleet next text before line number room old mid new w c a moments in (
+      record {
+        rides = w.rides ++ h.others;
+        printed = journal_of h.extended;
+        said = on h.others h.goes text w.part;
+        is_history = is_history g rates vehicles (w.rides ++ h.others) next h.extended v h.answered;
+        took = h.took;
+      },
+      none_behind text w.part,
+    )
   where
     none_left : (rest : List ℕ) → is_ended rest ≡ false → after_line rest ≡ []
     none_left rest e = after_last_line rest (none (position is_line_end rest) e)
@@ -466,17 +480,23 @@ ends_with_line g rates vehicles numbers more fleet next text before after left l
         → (x : Option (List ℕ)) → WhereTold x (λ told. IsPart g.nodes w.rides told before number room) → WhereTold x (λ told. rides_of g.nodes told ≡ record { rides = w.rides ++ others; ends = AtEnd })
     on others goes None p = tt
     on others goes (Some told) p =
-        let n = is_next g.nodes w.rides told line before after number room room' p t in
-        rides_from g.nodes w.rides told line after number room room' n
-        ∙ ap (λ (l : List ℕ). onto w.rides (rides_in g.nodes w.rides (number + 1) (Whole line.bytes ∷ pieces room' l))) (none_left n.rest (sym n.ended_is ∙ ended))
+        let n = is_next g.nodes w.rides told line before (unread reader left) number room reader.room p t in
+        rides_from g.nodes w.rides told line (unread reader left) number room reader.room n
+        ∙ ap (λ (l : List ℕ). onto w.rides (rides_in g.nodes w.rides (number + 1) (Whole line.bytes ∷ pieces reader.room l))) (none_left n.rest (sym n.ended_is ∙ ended))
         ∙ ap (onto w.rides) (goes []) ∙ ap (λ (l : List Request). record { rides = w.rides ++ l; ends = AtEnd }) (append-nil others)
+
+    none_behind : (x : Option (List ℕ)) → WhereTold x (λ told. IsPart g.nodes w.rides told before number room) → WhereTold x (λ told. left ≡ Some [])
+    none_behind None p = tt
+    none_behind (Some told) p =
+        let n = is_next g.nodes w.rides told line before (unread reader left) number room reader.room p t in
+        nothing_left reader.pending left reader refl (n.after_is ∙ ap Some (none_left n.rest (sym n.ended_is ∙ ended)))
 
 take_past : (xs ys : List ℕ) (n : ℕ) → take (length xs + n) (xs ++ ys) ≡ xs ++ take n ys
 take_past [] ys n = let e : 0 + n ≡ n = omega arith in ap (λ (k : ℕ). take k ys) e
 take_past (x ∷ xs) ys n = let e : length (x ∷ xs) + n ≡ suc (length xs + n) = omega arith in ap (λ (k : ℕ). take k (x ∷ (xs ++ ys))) e ∙ ap (λ (l : List ℕ). x ∷ l) (take_past xs ys n)
 
-takes_front : (a b c : Option (List ℕ)) (xs ys : List ℕ) → Takes a b xs → TakesFront b c ys → TakesFront a c (xs ++ ys)
-takes_front a b c xs ys h k =
+takes_prefix : (a b c : Option (List ℕ)) (xs ys : List ℕ) → Takes a b xs → TakesPrefix b c ys → TakesPrefix a c (xs ++ ys)
+takes_prefix a b c xs ys h k =
     let within = k.1 in
     (length xs + k.0, omega (arith, length-append xs ys), subst (Takes a c) (sym (take_past xs ys k.0)) (takes_both a b c xs (take k.0 ys) h k.2))
 
@@ -506,7 +526,7 @@ ends_in_ride g rates vehicles numbers more fleet next text before after left lin
           printed = journal_of (with_ride w.history r x.decision);
           said = told_more (r ∷ []) (λ m. ((rides_in g.nodes (w.rides ++ r ∷ []) (number + 1 + 1) m).rides, ap (λ (l : Rides). l.rides) (ride_said g.nodes w.rides (number + 1) line.bytes m r asks.says asks.accepted))) text w.part;
           is_history = is_history g rates vehicles (w.rides ++ r ∷ []) next (with_ride w.history r x.decision) v (one_more g rates vehicles w.rides fleet next r w.history x.decision w.answered f.0 fresh x.decides);
-          took = subst (TakesFront old new) (sym (ride_more w.history r x.decision)) (takes_front old mid new (journal_of w.history) (ride_group r x.decision) w.took x.took);
+          took = subst (TakesPrefix old new) (sym (ride_more w.history r x.decision)) (takes_prefix old mid new (journal_of w.history) (ride_group r x.decision) w.took x.took);
         }
     ride r q NoMemory x = record {
       rides = w.rides;

@@ -1,6 +1,7 @@
 use Rattle.std.specs.Prelude.{◌≡◌, ℕ, ◌++◌, ◌⊎◌, List, [], map, Option, Some, Ok, Err}
-use Rattle.ride_base.specs.Outside.{Held, Text, Takes, TakesFront}
+use Rattle.ride_base.specs.Outside.{Held, Text, Takes, TakesPrefix}
 use Rattle.ride_base.specs.Pieces.{Whole, ended_lines}
+use Rattle.ride_base.specs.Prefixes.{IsReadTo}
 use Rattle.road_graph.specs.Roads.{Roads}
 use Rattle.dimacs_reader.specs.declared.faults.GraphFault.{GraphFault}
 use Rattle.dimacs_reader.specs.Graphs.{graph_of}
@@ -9,6 +10,7 @@ use Rattle.stop_schedule.specs.declared.vehicle.Vehicle.{Vehicle}
 use Rattle.stop_schedule.specs.Rates.{Rates}
 use Rattle.input_tables.specs.declared.faults.FleetFault.{FleetFault}
 use Rattle.input_tables.specs.Fleets.{fleet_of}
+use Rattle.input_tables.specs.Refusals.{IsReadWithin}
 use Rattle.board_core.specs.declared.entry.Entry.{Entry}
 use Rattle.board_core.specs.Boards.{Board, opening_board}
 use Rattle.board_core.specs.Histories.{Legal, Ride, asked_in, AreAnsweredAtOnce}
@@ -18,13 +20,13 @@ use Rattle.dispatch_top.specs.declared.status.Status.{Status}
 use Rattle.dispatch_top.specs.declared.status.Status.TheVariants.{Done, NotYet, Usage, GraphText, FleetText, StreamText, ReadFault, WriteFault, NoMemory}
 use Rattle.dispatch_top.specs.declared.ending.Ending.TheVariants.{GraphText as EndsGraph, FleetText as EndsFleet}
 use Rattle.dispatch_top.specs.Endings.{ending_of_graph, ending_of_fleet}
-use Rattle.dispatch_top.specs.Streams.{rides_of, rides_in, StreamEnd, AtEnd, AtLater, AtBad}
-use Rattle.dispatch_top.specs.Tasks.{Answering, BeganFewer}
+use Rattle.dispatch_top.specs.Streams.{largest_text, rides_of, rides_in, StreamEnd, AtEnd, AtLater, AtBad}
+use Rattle.dispatch_top.specs.Tasks.{Answering, Began}
 
 -- How a run ends, and what was printed by then.
 
 -- These bytes are the lines of one legal history over a graph, from the opening board of these vehicles on: these rides were
--- submitted in order, each was answered at once, and each promise is kept in every front of the history.
+-- submitted in order, each was answered at once, and each promise is kept in every prefix of the history.
 pub record IsHistoryOf (roads : Roads) (rates : Rates) (vehicles : List Vehicle) (rides : List Request) (printed : List ℕ) : Type 0 where
   pub history : List Entry
   pub last : Board
@@ -54,7 +56,7 @@ pub record EndsEarly (roads : Roads) (rates : Rates) (vehicles : List Vehicle) (
 pub record EndsUnread (roads : Roads) (rates : Rates) (vehicles : List Vehicle) (Says : (List ℕ → Type 0) → Type 0) (left old new : Option (List ℕ)) : Type 0 where
   pub rides : List Request
   pub printed : List ℕ
-  pub said : Says (λ text. (read rest : List ℕ) × (left ≡ Some rest) × (text ≡ read ++ rest) × (rides_in roads.nodes [] 1 (map Whole (ended_lines read)) ≡ record { rides = rides; ends = AtEnd }))
+  pub said : Says (λ text. (r : IsReadTo largest_text text left) × (rides_in roads.nodes [] 1 (map Whole (ended_lines r.read)) ≡ record { rides = rides; ends = AtEnd }))
   pub is_history : IsHistoryOf roads rates vehicles rides printed
   pub took : Takes old new printed
 
@@ -80,24 +82,33 @@ pub record HasBadFleet (held : List ℕ → Held) (a : Answering) (row : ℕ) : 
 abbrev pub HasBadGraph : (List ℕ → Held) → Answering → ℕ → Type 0
 HasBadGraph held a line = OfHeld held a.graph (λ text. (fault : GraphFault) × (graph_of text ≡ Err fault) × (ending_of_graph fault ≡ EndsGraph line))
 
--- All of the stream was answered up to this end, and its lines were taken.
-abbrev pub StreamEnds : (List ℕ → Held) → Answering → StreamEnd → (old new : Option (List ℕ)) → Type 0
-StreamEnds held a end old new = AfterReading held a (λ roads vehicles. EndsAt roads a.rates vehicles end (OfHeld held a.stream) old new)
+-- The three names were begun, all of the stream was answered up to this end, and its lines were taken.
+abbrev pub StreamEnds : (List ℕ → Held) → Answering → StreamEnd → (old_names new_names : List (List ℕ)) → (old new : Option (List ℕ)) → Type 0
+StreamEnds held a end old_names new_names old new = Began 3 a old_names new_names × AfterReading held a (λ roads vehicles. EndsAt roads a.rates vehicles end (OfHeld held a.stream) old new)
 
--- nothing was taken, since no text of the stream was begun
-abbrev pub UnbegunStream : Answering → Type 0 → (old_names new_names : List (List ℕ)) → (old new : Option (List ℕ)) → Type 0
-UnbegunStream a IsBegun old_names new_names old new = (new ≡ old) × (IsBegun → BeganFewer a old_names new_names)
+-- the graph was read
+pub record HasGraph (held : List ℕ → Held) (a : Answering) : Type 0 where
+  pub roads : Roads
+  pub graph_read : OfHeld held a.graph (λ text. graph_of text ≡ Ok roads)
+
+-- The shelf failed at the graph; at the fleet behind a good graph, no byte past the fleet's limit being read; or at the stream behind
+-- both. Of the stream the lines that were read whole are answered, and nothing was taken where it wasn't begun.
+abbrev pub ReadFails : (List ℕ → Held) → Answering → (IsBegun : Type 0) → (left : Option (List ℕ)) → (old_names new_names : List (List ℕ)) → (old new : Option (List ℕ)) → Type 0
+ReadFails held a IsBegun left old_names new_names old new =
+    (Began 1 a old_names new_names × (new ≡ old))
+    ⊎ (Began 2 a old_names new_names × HasGraph held a × (IsBegun → OfHeld held a.fleet (λ text. IsReadWithin text left)) × (new ≡ old))
+    ⊎ (Began 3 a old_names new_names × AfterReading held a (λ roads vehicles. ((IsBegun → ⊥) × (new ≡ old)) ⊎ EndsUnread roads a.rates vehicles (OfHeld held a.stream) left old new))
 
 -- how a run ends with each status
 abbrev pub Ends : (List ℕ → Held) → Answering → Status → (IsBegun : Type 0) → (left : Option (List ℕ)) → (old_names new_names : List (List ℕ)) → (old new : Option (List ℕ)) → Type 0
-Ends held a Done IsBegun left old_names new_names old new = StreamEnds held a AtEnd old new
-Ends held a NotYet IsBegun left old_names new_names old new = StreamEnds held a AtLater old new
+Ends held a Done IsBegun left old_names new_names old new = StreamEnds held a AtEnd old_names new_names old new × OfHeld held a.stream (λ text. left ≡ Some [])
+Ends held a NotYet IsBegun left old_names new_names old new = StreamEnds held a AtLater old_names new_names old new
 Ends held a Usage IsBegun left old_names new_names old new = ⊥
-Ends held a (GraphText line) IsBegun left old_names new_names old new = HasBadGraph held a line × (new ≡ old)
-Ends held a (FleetText row) IsBegun left old_names new_names old new = HasBadFleet held a row × (new ≡ old)
-Ends held a (StreamText line) IsBegun left old_names new_names old new = StreamEnds held a (AtBad line) old new
-Ends held a ReadFault IsBegun left old_names new_names old new =
-    UnbegunStream a IsBegun old_names new_names old new ⊎ AfterReading held a (λ roads vehicles. EndsUnread roads a.rates vehicles (OfHeld held a.stream) left old new)
-Ends held a WriteFault IsBegun left old_names new_names old new = AfterReading held a (λ roads vehicles. EndsEarly roads a.rates vehicles (OfHeld held a.stream) (TakesFront old new))
+Ends held a (GraphText line) IsBegun left old_names new_names old new = Began 1 a old_names new_names × HasBadGraph held a line × (new ≡ old)
+Ends held a (FleetText row) IsBegun left old_names new_names old new = Began 2 a old_names new_names × HasBadFleet held a row × (new ≡ old)
+Ends held a (StreamText line) IsBegun left old_names new_names old new = StreamEnds held a (AtBad line) old_names new_names old new
+Ends held a ReadFault IsBegun left old_names new_names old new = ReadFails held a IsBegun left old_names new_names old new
+Ends held a WriteFault IsBegun left old_names new_names old new =
+    Began 3 a old_names new_names × AfterReading held a (λ roads vehicles. EndsEarly roads a.rates vehicles (OfHeld held a.stream) (TakesPrefix old new))
 Ends held a NoMemory IsBegun left old_names new_names old new =
     (new ≡ old) ⊎ AfterReading held a (λ roads vehicles. EndsEarly roads a.rates vehicles (OfHeld held a.stream) (Takes old new))

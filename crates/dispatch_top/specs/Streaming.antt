@@ -1,8 +1,8 @@
-use Rattle.std.specs.Prelude.{◌≡◌, ℕ, ◌+◌, ◌++◌, ◌||◌, ◌&&◌, ◌==◌, ◌≤◌, nat_le, not, Bool, true, cond, List, position, Option, Some, None, Result, Ok, Err, slice_get}
+use Rattle.std.specs.Prelude.{◌≡◌, ℕ, ◌+◌, ◌++◌, ◌||◌, ◌&&◌, ◌==◌, ◌≤◌, nat_le, not, Bool, true, cond, List, position, Option, Some, None, Result, Ok, Err, slice_get, length, []}
 use Rattle.std.specs.BTreeSet.{BTreeSet, contains}
 use Rattle.std.specs.Ordering.{nat_cmp}
-use Rattle.ride_base.specs.Outside.{Takes, TakesFront}
-use Rattle.ride_base.specs.Pieces.{is_line_end}
+use Rattle.ride_base.specs.Outside.{Takes, TakesPrefix}
+use Rattle.ride_base.specs.Pieces.{is_line_end, longest_line}
 use Rattle.ride_base.specs.Reading.{Tells}
 use Rattle.ride_base.specs.declared.lines.Line.{Line}
 use Rattle.ride_base.specs.declared.lines.LineFault.{LineFault}
@@ -61,7 +61,7 @@ pub record IsRideAnswered (g : Roads) (old : Cars) (r : Request) (new : Cars) (T
 -- what an answer for a ride says of what was taken
 abbrev pub RideAnswer : Roads → (old : Cars) → Request → Result (Unit {0}) Ending → (new : Cars) → (taken took : Option (List ℕ)) → Type 0
 RideAnswer g old r (Ok done) new taken took = IsRideAnswered g old r new (Takes taken took)
-RideAnswer g old r (Err WriteFault) new taken took = IsRideAnswered g old r new (TakesFront taken took)
+RideAnswer g old r (Err WriteFault) new taken took = IsRideAnswered g old r new (TakesPrefix taken took)
 RideAnswer g old r (Err NoMemory) new taken took = took ≡ taken
 RideAnswer g old r (Err NotYet) new taken took = ⊥
 RideAnswer g old r (Err (GraphText line)) new taken took = ⊥
@@ -93,20 +93,20 @@ ending_of_line line Long = StreamText line
 ending_of_line line Large = StreamText line
 ending_of_line line LineNoMemory = NoMemory
 
--- What an answer for the line after so many says of the text that was not given before, and then isn't given. Where the shelf failed, no
--- line end is among the bytes that were read and not given.
+-- What an answer for the line after so many says of the text that was not given before, and then isn't given. Where the shelf failed, the
+-- bytes that were read and not given have no line end, and are no more than a line may have.
 abbrev pub LineGiven : (number room : ℕ) → Option (List ℕ) → Result (Option Line) Ending → (room' : ℕ) → Option (List ℕ) → (pending : List ℕ) → Type 0
 LineGiven number room before (Ok line) room' after pending = Tells room before (Ok line) room' after
 LineGiven number room before (Err ending) room' after pending =
-    (fault : LineFault) × (ending ≡ ending_of_line (number + 1) fault) × Tells room before (Err fault) room' after × (fault ≡ Fault → position is_line_end pending ≡ None)
+    (fault : LineFault) × (ending ≡ ending_of_line (number + 1) fault) × Tells room before (Err fault) room' after × (fault ≡ Fault → (position is_line_end pending ≡ None) × (length pending ≤ longest_line))
 
 -- how the answers to a stream end
 abbrev pub Streamed : Roads → Rates → List Vehicle → (Says : (List ℕ → Type 0) → Type 0) → Result (Unit {0}) Ending → (left old new : Option (List ℕ)) → Type 0
-Streamed g rates vehicles Says (Ok done) left old new = EndsAt g rates vehicles AtEnd Says old new
+Streamed g rates vehicles Says (Ok done) left old new = EndsAt g rates vehicles AtEnd Says old new × Says (λ text. left ≡ Some [])
 Streamed g rates vehicles Says (Err NotYet) left old new = EndsAt g rates vehicles AtLater Says old new
 Streamed g rates vehicles Says (Err (GraphText line)) left old new = ⊥
 Streamed g rates vehicles Says (Err (FleetText row)) left old new = ⊥
 Streamed g rates vehicles Says (Err (StreamText line)) left old new = EndsAt g rates vehicles (AtBad line) Says old new
 Streamed g rates vehicles Says (Err ReadFault) left old new = EndsUnread g rates vehicles Says left old new
-Streamed g rates vehicles Says (Err WriteFault) left old new = EndsEarly g rates vehicles Says (TakesFront old new)
+Streamed g rates vehicles Says (Err WriteFault) left old new = EndsEarly g rates vehicles Says (TakesPrefix old new)
 Streamed g rates vehicles Says (Err NoMemory) left old new = EndsEarly g rates vehicles Says (Takes old new)

@@ -18,7 +18,8 @@ largest_text = 1073741824
 abbrev pub stood_before : List Request → Request → Bool
 stood_before before r = list_any (λ (b : Request). b.no.0 == r.no.0) before
 
--- a ride that an open board at the clock 0 accepts behind earlier ones: between nodes of the graph, of 1 to 16 riders, with a new number
+-- a ride that an open board at the clock 0 accepts behind earlier ones: between nodes of the graph, of 1 to 16 riders, with a new number.
+-- No moment of a stream's line is too late for a board.
 abbrev pub is_accepted : (nodes : ℕ) → List Request → Request → Bool
 is_accepted nodes before r = is_node nodes r.pickup && is_node nodes r.dropoff && nat_le 1 r.riders && nat_le r.riders 16 && not (stood_before before r)
 

@@ -1,4 +1,4 @@
-use Rattle.std.specs.Prelude.{◌≡◌, ℕ, ◌≤◌, ◌<◌, ◌++◌, ◌&&◌, not, is_none, Bool, cond, List, [], ◌∷◌, take, Option, Some, None, codes, refl}
+use Rattle.std.specs.Prelude.{◌≡◌, ℕ, ◌≤◌, ◌++◌, ◌&&◌, not, is_none, Bool, cond, List, [], ◌∷◌, take, Option, Some, None, codes, refl}
 use Rattle.ride_base.specs.Outside.{Held, Absent}
 use Rattle.stop_schedule.specs.Rates.{Rates, usual}
 use Rattle.command_words.specs.Commands.{Word, Form, Run, Audit, Walk, Gen, Live, RunOptions, form_of}
@@ -38,13 +38,13 @@ task_of words = task_in (form_of words)
 abbrev pub names_of : Answering → List Word
 names_of a = a.graph ∷ a.fleet ∷ a.stream ∷ []
 
+-- the names begun are the first so many of a run's names
+abbrev pub Began : ℕ → Answering → List Word → List Word → Type 0
+Began k a old new = new ≡ old ++ take k (names_of a)
+
 -- the names begun are the first of a run's names, each once
 abbrev pub BeganInOrder : Answering → List Word → List Word → Type 0
-BeganInOrder a old new = (k : ℕ) × (k ≤ 3) × (new ≡ old ++ take k (names_of a))
-
--- not all of them were begun
-abbrev pub BeganFewer : Answering → List Word → List Word → Type 0
-BeganFewer a old new = (k : ℕ) × (k < 3) × (new ≡ old ++ take k (names_of a))
+BeganInOrder a old new = (k : ℕ) × (k ≤ 3) × Began k a old new
 
 -- each of a run's names is held, or what it holds isn't told
 abbrev pub AreHeld : Answering → (List ℕ → Held) → Type 0

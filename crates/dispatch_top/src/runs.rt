@@ -18,7 +18,7 @@ use std::thread::Threads;
 use stop_schedule::Params;
 
 /// Does what the words of a command line ask, without the program's own name. By `run GRAPH FLEET STREAM` it reads the three texts from
-/// the shelf in this order, and writes the lines of each ride to the sink as soon as it is answered.
+/// the shelf in this order, and writes the lines of each ride to the sink before it reads the next line.
 pub fn run<R: Threads + Sync, S: Shelf, K: Sink, L>(
     _rt: &R,
     alloc: Global,
@@ -34,6 +34,8 @@ pub fn run<R: Threads + Sync, S: Shelf, K: Sink, L>(
     ensures read { result ≡ Status.ReadFault → Rose (S.faults shelf.old) (S.faults shelf.new) }
     ensures written { result ≡ Status.WriteFault → Rose (K.faults sink.old) (K.faults sink.new) }
     ensures held { S.held shelf.new ≡ S.held shelf.old }
+    ensures counted { (S.faults shelf.old ≤ S.faults shelf.new) × (K.faults sink.old ≤ K.faults sink.new) }
+    ensures sure { S.IsSure shelf.old → S.IsSure shelf.new }
     ensures surely { (a : Answering) → task_of (map string_bytes words.now) ≡ Answer a → S.IsSure shelf.old → AreHeld a (S.held shelf.old) → result ≡ Status.ReadFault → ⊥ }
     ensures silent { (a : Answering) → task_of (map string_bytes words.now) ≡ Answer a → S.IsSure shelf.old → AreHeld a (S.held shelf.old) → S.faults shelf.new ≡ S.faults shelf.old }
 {
@@ -76,6 +78,8 @@ fn answer<S: Shelf, K: Sink, L>(
     ensures read { result ≡ Err Ending.ReadFault → Rose (S.faults shelf.old) (S.faults shelf.new) }
     ensures written { result ≡ Err Ending.WriteFault → Rose (K.faults sink.old) (K.faults sink.new) }
     ensures held { S.held shelf.new ≡ S.held shelf.old }
+    ensures counted { (S.faults shelf.old ≤ S.faults shelf.new) × (K.faults sink.old ≤ K.faults sink.new) }
+    ensures sure { S.IsSure shelf.old → S.IsSure shelf.new }
     ensures surely { S.IsSure shelf.old → AreHeld (record { graph = graph_name.now; fleet = fleet_name.now; stream = stream_name.now; rates = params }) (S.held shelf.old) → result ≡ Err Ending.ReadFault → ⊥ }
     ensures silent { S.IsSure shelf.old → AreHeld (record { graph = graph_name.now; fleet = fleet_name.now; stream = stream_name.now; rates = params }) (S.held shelf.old) → S.faults shelf.new ≡ S.faults shelf.old }
 {

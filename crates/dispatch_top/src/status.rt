@@ -7,7 +7,7 @@ pub enum Status {
     Done,
     /// The words have a form, or a line of the stream asks for something, that isn't answered yet. The lines before it are answered.
     NotYet,
-    /// The words are none of the forms.
+    /// The words are none of the forms that `run` takes. Nothing is begun and nothing written.
     Usage,
     /// The graph is refused, and this is its first bad line, from 1. Nothing is written.
     GraphText { line: u64 },
@@ -17,9 +17,9 @@ pub enum Status {
     StreamText { line: u64 },
     /// A text couldn't be begun, or not be read further. The lines of the stream that were read whole are answered.
     ReadFault,
-    /// The output couldn't be written. A front of it was.
+    /// The output couldn't be written. A prefix of it was.
     WriteFault,
-    /// Memory was wanted. The first lines of the stream are answered.
+    /// Memory was wanted. Of the stream the first lines are answered, or none.
     NoMemory,
 }
 

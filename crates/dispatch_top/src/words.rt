@@ -24,7 +24,7 @@ pub(crate) enum Task<'a> {
     Answer(Asked<'a>),
     /// A form that isn't answered yet.
     Later,
-    /// The words are none of the forms.
+    /// The words are none of the forms that `run` takes.
     Unknown,
 }
 

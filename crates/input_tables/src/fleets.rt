@@ -7,7 +7,7 @@ ghost use Rattle.stop_schedule.specs.declared.vehicle.Vehicle.{Vehicle};
 ghost use Rattle.std.specs.BTreeMap.{values};
 ghost use Rattle.input_tables.specs.Fleets.{fleet_of, fleet_in, vehicle_in as vehicle_in_row, vehicles_in, without_blanks, stood_before, is_in_range as is_in_range_of};
 ghost use Rattle.input_tables.specs.Records.{IsReading, records_left};
-ghost use Rattle.input_tables.specs.Refusals.{IsRefusal, AreVehicles};
+ghost use Rattle.input_tables.specs.Refusals.{IsReadWithin, IsRefusal, AreVehicles};
 ghost use Rattle.input_tables.specs.Rows.{IsHeaded, Keeps, kept_of, ranged_by, vehicle_by};
 
 use crate::cells::{RowNumbers, is_header, row_numbers};
@@ -49,6 +49,7 @@ pub fn read_fleet<S: Shelf>(
     ensures vehicles { IfOk result (λ v. AreVehicles nodes v) }
     ensures refused { IfErr result (λ e. IsRefusal e → WhereTold (S.left shelf.old) (λ text. fleet_of nodes text ≡ Err e)) }
     ensures fault { result ≡ Err FleetFault.Fault → Rose (S.faults shelf.old) (S.faults shelf.new) }
+    ensures unread { result ≡ Err FleetFault.Fault → WhereTold (S.left shelf.old) (λ text. IsReadWithin text (S.left shelf.new)) }
     ensures surely { S.IsSure shelf.old → result ≡ Err FleetFault.Fault → ⊥ }
     ensures shelf { OnlyRead S.IsBegun S.held S.names S.IsSure S.faults shelf.old shelf.new }
 {

@@ -1,5 +1,6 @@
 pub mod Taking
 pub mod Spelling
+pub mod Prefixes
 pub mod Searching
 pub mod Fielding
 pub mod Filling

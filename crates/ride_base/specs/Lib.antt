@@ -1,5 +1,6 @@
 pub mod Outside
 pub mod Pieces
+pub mod Prefixes
 pub mod Reader
 pub mod Reading
 pub mod Digits

@@ -34,9 +34,9 @@ Takes None (Some new) bytes = ⊥
 Takes (Some old) None bytes = ⊥
 Takes (Some old) (Some new) bytes = new ≡ old ++ bytes
 
--- a front of the bytes came to the end of what was taken
-abbrev pub TakesFront : Option (List ℕ) → Option (List ℕ) → List ℕ → Type 0
-TakesFront old new bytes = (k : ℕ) × (k ≤ length bytes) × Takes old new (take k bytes)
+-- a prefix of the bytes came to the end of what was taken
+abbrev pub TakesPrefix : Option (List ℕ) → Option (List ℕ) → List ℕ → Type 0
+TakesPrefix old new bytes = (k : ℕ) × (k ≤ length bytes) × Takes old new (take k bytes)
 
 -- A shelf was only read: a text is begun still, what the names hold and the names begun are the same, and the count didn't fall.
 -- Where the shelf was sure it is so still, and its count is the same.

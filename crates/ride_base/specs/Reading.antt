@@ -1,4 +1,4 @@
-use Rattle.std.specs.Prelude.{◌≡◌, ℕ, ◌+◌, ◌<◌, ◌++◌, List, [], ◌∷◌, length, Option, Some, None, Result, Ok, Err}
+use Rattle.std.specs.Prelude.{◌≡◌, ℕ, ◌+◌, ◌<◌, ◌≤◌, ◌++◌, List, [], ◌∷◌, length, Option, Some, None, Result, Ok, Err}
 use Rattle.ride_base.specs.Pieces.{Whole, TooLong, TooLarge, pieces, after_line, is_ended}
 use Rattle.ride_base.specs.Reader.{Reader, Stop, Long as StopLong, Large as StopLarge}
 use Rattle.ride_base.specs.declared.buffer.ReadFault.{ReadFault}
@@ -48,11 +48,14 @@ abbrev pub fault_of_read : ReadFault → LineFault
 fault_of_read Failed = Fault
 fault_of_read ReadNoMemory = NoMemory
 
--- What an answer says of the rest of a text that may have so many bytes, where it is told. After an error a front of it is lost.
+-- What an answer says of the rest of a text that may have so many bytes, where it is told. After an error a prefix of it is lost, and
+-- none of it past the limit where the shelf failed.
 abbrev pub TellsWhole : Option (List ℕ) → ℕ → Result (List ℕ) LineFault → Option (List ℕ) → Type 0
 TellsWhole None limit answer after = after ≡ None
 TellsWhole (Some text) limit (Ok bytes) after = (bytes ≡ text) × (after ≡ Some [])
 TellsWhole (Some text) limit (Err Large) None = ⊥
 TellsWhole (Some text) limit (Err Large) (Some after) = (limit < length text) × ((lost : List ℕ) × (text ≡ lost ++ after))
+TellsWhole (Some text) limit (Err Fault) None = ⊥
+TellsWhole (Some text) limit (Err Fault) (Some after) = (lost : List ℕ) × (length lost ≤ limit) × (text ≡ lost ++ after)
 TellsWhole (Some text) limit (Err error) None = ⊥
 TellsWhole (Some text) limit (Err error) (Some after) = (lost : List ℕ) × (text ≡ lost ++ after)

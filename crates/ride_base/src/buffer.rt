@@ -102,6 +102,7 @@ impl Buffer {
         ensures front { IfOk result (λ front. FrontOf self.new most front × MayEnd front (S.left shelf.new)) }
         ensures unread { with_front self.new (S.left shelf.new) ≡ with_front self.old (S.left shelf.old) }
         ensures unended { OnErr result (position is_line_end self.new ≡ None) }
+        ensures few { OnErr result (length self.new ≤ most) }
         ensures rose { result ≡ Err ReadFault.Failed → Rose (S.faults shelf.old) (S.faults shelf.new) }
         ensures surely { S.IsSure shelf.old → result ≡ Err ReadFault.Failed → ⊥ }
         ensures holds { IsSome (position is_line_end self.old) → shelf.new ≡ shelf.old }

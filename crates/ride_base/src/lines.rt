@@ -134,6 +134,7 @@ impl Lines {
         ensures again { IfSome self.old.stopped (λ stop. (result ≡ Err (fault_of stop)) × (self.new ≡ self.old) × (shelf.new ≡ shelf.old)) }
         ensures rose { result ≡ Err LineFault.Fault → Rose (S.faults shelf.old) (S.faults shelf.new) }
         ensures unended { result ≡ Err LineFault.Fault → position is_line_end self.new.pending ≡ None }
+        ensures few { result ≡ Err LineFault.Fault → length self.new.pending ≤ min self.old.room longest_line }
         ensures surely { S.IsSure shelf.old → result ≡ Err LineFault.Fault → ⊥ }
         ensures holds { IsSome (position is_line_end self.old.pending) → shelf.new ≡ shelf.old }
         ensures shelf { OnlyRead S.IsBegun S.held S.names S.IsSure S.faults shelf.old shelf.new }

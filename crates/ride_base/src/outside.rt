@@ -1,5 +1,5 @@
 ghost use Rattle.std.specs.Prelude.{◌≡◌, ℕ, List, [], ◌∷◌, ◌++◌, ◌<◌, ◌≤◌, length, take, OnOk, OnErr, IfOk, IsOk, Option, ◌^◌, ◌-◌};
-ghost use Rattle.ride_base.specs.Outside.{Held, Absent, Rose, Moves, Begins, OnlyRead, Takes, TakesFront};
+ghost use Rattle.ride_base.specs.Outside.{Held, Absent, Rose, Moves, Begins, OnlyRead, Takes, TakesPrefix};
 
 /// A call of the outside world failed.
 #[derive(Clone, Copy, Debug, PartialEq, Eq)]
@@ -77,10 +77,10 @@ pub trait Sink {
         ensures rose { OnErr result (Rose (faults self.old) (faults self.new)) };
 }
 
-/// Writes all the bytes. After `Failed` the sink has taken a front of them.
+/// Writes all the bytes. After `Failed` the sink has taken a prefix of them.
 pub fn write_whole<K: Sink>(sink: &mut K, bytes: &[u8]) -> Result<(), Failed>
     ensures ok { OnOk result (Takes (K.taken sink.old) (K.taken sink.new) bytes.now) }
-    ensures err { OnErr result (TakesFront (K.taken sink.old) (K.taken sink.new) bytes.now) }
+    ensures err { OnErr result (TakesPrefix (K.taken sink.old) (K.taken sink.new) bytes.now) }
     ensures counted { K.faults sink.old ≤ K.faults sink.new }
     ensures rose { OnErr result (Rose (K.faults sink.old) (K.faults sink.new)) }
 {

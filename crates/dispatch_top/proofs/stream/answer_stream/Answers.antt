@@ -21,7 +21,8 @@ returns-in_err-line-clause-streamed g c = let e = handed_on c.from_residual-in_e
     rw e (ends_before_line c.args.graph.now c.args.params c.args.vehicles.now _ _ (g.S.Shelf.left c.args.shelf.now) c.next_line.new.lines _ (g.S.Shelf.left c.next_line.new.shelf) _ _ _ _ c.in_err-line.field-0.0 c.requires.vehicles c.lines.invariant.on_its_way c.in_err-line.ensures.given)
 
 pub returns-in_default-clause-streamed : goal.returns-in_default-clause-streamed
-returns-in_default-clause-streamed g c = ends_with_none c.args.graph.now c.args.params c.args.vehicles.now _ _ (g.S.Shelf.left c.args.shelf.now) _ _ (g.S.Shelf.left c.next_line.new.shelf) _ _ _ _ _ c.in_ok-line.field-0 c.requires.vehicles c.lines.invariant.on_its_way c.in_ok-line.ensures.given c.in_default.not-Some
+returns-in_default-clause-streamed g c =
+    ends_with_none c.args.graph.now c.args.params c.args.vehicles.now _ _ (g.S.Shelf.left c.args.shelf.now) _ (g.S.Shelf.left c.next_line.new.shelf) c.next_line.new.lines _ _ _ _ c.in_ok-line.field-0 c.requires.vehicles c.lines.invariant.on_its_way c.in_ok-line.ensures.given c.in_default.not-Some
 
 pub answer_line-requires-clause-walks : goal.answer_line-requires-clause-walks
 answer_line-requires-clause-walks g c = still_least _ _ _ _ _ _ _ _ _ _ _ c.requires.vehicles c.lines.invariant.on_its_way
@@ -32,7 +33,8 @@ returns-in_err-answer_line-clause-streamed g c = let e = handed_on c.from_residu
     (rw c.in-Some.is at c.in_ok-line.ensures.given) ((rw c.in-Some.is at c.in_ok-line.ensures.count).0) c.in_err-answer_line.ensures.answered c.in_err-answer_line.ensures.moments)
 
 pub returns-then-not-line-clause-streamed : goal.returns-then-not-line-clause-streamed
-returns-then-not-line-clause-streamed g c = ends_with_line c.args.graph.now c.args.params c.args.vehicles.now _ _ _ _ (g.S.Shelf.left c.args.shelf.now) _ _ (g.S.Shelf.left c.next_line.new.shelf) c.in-Some.line _ _ _ _ _ _ c.requires.vehicles c.lines.invariant.on_its_way
+returns-then-not-line-clause-streamed g c =
+    ends_with_line c.args.graph.now c.args.params c.args.vehicles.now _ _ _ _ (g.S.Shelf.left c.args.shelf.now) _ (g.S.Shelf.left c.next_line.new.shelf) c.next_line.new.lines c.in-Some.line _ _ _ _ _ c.requires.vehicles c.lines.invariant.on_its_way
     (rw c.in-Some.is at c.in_ok-line.ensures.given) ((rw c.in-Some.is at c.in_ok-line.ensures.count).0) c.if-not-line.true c.in_ok-answer_line.ensures.answered c.in_ok-answer_line.ensures.moments
 
 pub lines-preserved : goal.lines-preserved
