@@ -11,7 +11,8 @@ pub enum GraphFault {
     /// behind its last one.
     #[error("line {line} has none of the forms")]
     Form { line: u64 },
-    /// There are more lines than the problem line said, or fewer at the end of the text (at the line behind its last one).
+    /// There are more roads or places than the problem line said, or fewer at the end of the text (at the line behind its last one). Of
+    /// places it may say another number than that of the graph's nodes, which is then the number found.
     #[error("line {line}: {said} were said, and {found} found")]
     Count { line: u64, said: u64, found: u64 },
     /// A number on the line is no node, or the node of a place has one already.

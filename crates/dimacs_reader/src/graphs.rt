@@ -8,7 +8,7 @@ ghost use Rattle.road_graph.specs.Roads.{Roads, is_node, is_within, node as node
 ghost use Rattle.dimacs_reader.specs.Forms.{graph_line as graph_line_in};
 ghost use Rattle.dimacs_reader.specs.Graphs.{graph_of, over_nodes, arc_line, road_and, first_line};
 ghost use Rattle.dimacs_reader.specs.Reading.{graph_ahead, roads_ahead, graph_with, roads_with, road_with};
-ghost use Rattle.dimacs_reader.specs.Refusals.{IsRefusal};
+ghost use Rattle.dimacs_reader.specs.Refusals.{IsRefusal, IsUndecided, IsReadFrom};
 
 use crate::faults::GraphFault;
 use crate::forms::{GraphLine, graph_line};
@@ -39,6 +39,7 @@ pub fn read_graph<S: Shelf>(alloc: Global, shelf: &mut S) -> Result<Graph, Graph
     requires { S.IsBegun shelf.old }
     ensures graph { IfOk result (λ g. WhereTold (S.left shelf.old) (λ text. graph_of text ≡ Ok g)) }
     ensures refused { IfErr result (λ e. IsRefusal e → WhereTold (S.left shelf.old) (λ text. graph_of text ≡ Err e)) }
+    ensures unread { result ≡ Err GraphFault.Fault → WhereTold (S.left shelf.old) (λ text. IsUndecided (graph_of text) text (S.left shelf.new)) }
     ensures is_graph { IfOk result IsGraph }
     ensures fault { result ≡ Err GraphFault.Fault → Rose (S.faults shelf.old) (S.faults shelf.new) }
     ensures surely { S.IsSure shelf.old → result ≡ Err GraphFault.Fault → ⊥ }
@@ -66,6 +67,8 @@ fn read_problem<S: Shelf>(
     ensures few_nodes { IfOk result (λ said. said.nodes ≤ most_nodes) }
     ensures few_roads { IfOk result (λ said. said.roads ≤ most_roads) }
     ensures refused { IfErr result (λ e. IsRefusal e → WhereTold (graph_ahead lines.old.given (ahead lines.old (S.left shelf.old))) (λ answer. answer ≡ Err e)) }
+    ensures goes { IsOk result → (text : List ℕ) → IsReadFrom text lines.old (S.left shelf.old) → IsReadFrom text lines.new (S.left shelf.new) }
+    ensures unread { result ≡ Err GraphFault.Fault → (text : List ℕ) → IsReadFrom text lines.old (S.left shelf.old) → WhereTold (graph_ahead lines.old.given (ahead lines.old (S.left shelf.old))) (λ said. IsUndecided said text (S.left shelf.new)) }
     ensures unstopped { IsOk result → lines.new.stopped ≡ None }
     ensures fault { result ≡ Err GraphFault.Fault → Rose (S.faults shelf.old) (S.faults shelf.new) }
     ensures surely { S.IsSure shelf.old → result ≡ Err GraphFault.Fault → ⊥ }
@@ -117,6 +120,7 @@ fn read_roads<S: Shelf>(
     ensures roads { IfOk result (λ roads. WhereTold (roads_ahead said.nodes said.roads 0 lines.old.given (ahead lines.old (S.left shelf.old))) (λ answer. answer ≡ Ok roads)) }
     ensures sound { IfOk result (λ roads. fault_in said.nodes roads ≡ None) }
     ensures refused { IfErr result (λ e. IsRefusal e → WhereTold (roads_ahead said.nodes said.roads 0 lines.old.given (ahead lines.old (S.left shelf.old))) (λ answer. answer ≡ Err e)) }
+    ensures unread { result ≡ Err GraphFault.Fault → (text : List ℕ) → IsReadFrom text lines.old (S.left shelf.old) → WhereTold (roads_ahead said.nodes said.roads 0 lines.old.given (ahead lines.old (S.left shelf.old))) (λ answer. IsUndecided answer text (S.left shelf.new)) }
     ensures fault { result ≡ Err GraphFault.Fault → Rose (S.faults shelf.old) (S.faults shelf.new) }
     ensures surely { S.IsSure shelf.old → result ≡ Err GraphFault.Fault → ⊥ }
     ensures shelf { OnlyRead S.IsBegun S.held S.names S.IsSure S.faults shelf.old shelf.new }

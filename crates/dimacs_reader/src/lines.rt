@@ -1,8 +1,9 @@
-ghost use Rattle.std.specs.Prelude.{◌≡◌, ◌+◌, [], Option, Some, None, IsOk, Err};
+ghost use Rattle.std.specs.Prelude.{◌≡◌, ℕ, ◌+◌, [], List, Option, Some, None, IsOk, IfOk, IfSome, Err};
 ghost use Rattle.ride_base.specs.Outside.{Rose, OnlyRead};
 ghost use Rattle.ride_base.specs.Told.{ahead};
 ghost use Rattle.dimacs_reader.specs.Graphs.{largest_text};
 ghost use Rattle.dimacs_reader.specs.Reading.{GivesLine, CountsLine, fault_at as fault_of};
+ghost use Rattle.dimacs_reader.specs.Refusals.{AreFewEnded, IsReadFrom};
 
 use crate::faults::GraphFault;
 use ride_base::{Line, LineFault, Lines, Shelf};
@@ -58,6 +59,8 @@ impl CountedLines {
         requires unstopped { self.old.stopped ≡ None }
         ensures gives { GivesLine self.old.given (ahead self.old (S.left shelf.old)) result (ahead self.new (S.left shelf.new)) }
         ensures counts { CountsLine self.old result self.new }
+        ensures goes { IfOk result (λ o. IfSome o (λ _. (text : List ℕ) → IsReadFrom text self.old (S.left shelf.old) → IsReadFrom text self.new (S.left shelf.new))) }
+        ensures unread { result ≡ Err GraphFault.Fault → (text : List ℕ) → IsReadFrom text self.old (S.left shelf.old) → AreFewEnded text (S.left shelf.new) self.old.given }
         ensures unstopped { IsOk result → self.new.stopped ≡ None }
         ensures fault { result ≡ Err GraphFault.Fault → Rose (S.faults shelf.old) (S.faults shelf.new) }
         ensures surely { S.IsSure shelf.old → result ≡ Err GraphFault.Fault → ⊥ }

@@ -5,7 +5,7 @@ ghost use Rattle.ride_base.specs.Told.{WhereTold, ahead};
 ghost use Rattle.dimacs_reader.specs.Forms.{place_line as place_line_in};
 ghost use Rattle.dimacs_reader.specs.Places.{Placed, AreCoordinates, places_of, opening_line, later_line, place_and};
 ghost use Rattle.dimacs_reader.specs.Reading.{places_ahead, placed_ahead, header_with, places_with, place_with, AreKept, placed_by, cut, read_coordinate};
-ghost use Rattle.dimacs_reader.specs.Refusals.{IsRefusal};
+ghost use Rattle.dimacs_reader.specs.Refusals.{IsRefusal, IsUndecided, IsReadFrom};
 
 use crate::faults::GraphFault;
 use crate::forms::{Coordinate, PlaceLine, place_line};
@@ -43,6 +43,7 @@ pub fn read_places<S: Shelf>(
     ensures places { IfOk result (λ v. WhereTold (S.left shelf.old) (λ text. (placed : List Placed) × (places_of nodes text ≡ Ok placed) × AreCoordinates nodes placed v.items)) }
     ensures all { IfOk result (λ v. length v.items ≡ nodes) }
     ensures refused { IfErr result (λ e. IsRefusal e → WhereTold (S.left shelf.old) (λ text. places_of nodes text ≡ Err e)) }
+    ensures unread { result ≡ Err GraphFault.Fault → WhereTold (S.left shelf.old) (λ text. IsUndecided (places_of nodes text) text (S.left shelf.new)) }
     ensures fault { result ≡ Err GraphFault.Fault → Rose (S.faults shelf.old) (S.faults shelf.new) }
     ensures surely { S.IsSure shelf.old → result ≡ Err GraphFault.Fault → ⊥ }
     ensures shelf { OnlyRead S.IsBegun S.held S.names S.IsSure S.faults shelf.old shelf.new }
@@ -63,6 +64,8 @@ fn read_header<S: Shelf>(
     requires unstopped { lines.old.stopped ≡ None }
     ensures header { OnOk result (places_ahead nodes lines.old.given (ahead lines.old (S.left shelf.old)) ≡ placed_ahead nodes [] lines.new.given (ahead lines.new (S.left shelf.new))) }
     ensures refused { IfErr result (λ e. IsRefusal e → WhereTold (places_ahead nodes lines.old.given (ahead lines.old (S.left shelf.old))) (λ answer. answer ≡ Err e)) }
+    ensures goes { IsOk result → (text : List ℕ) → IsReadFrom text lines.old (S.left shelf.old) → IsReadFrom text lines.new (S.left shelf.new) }
+    ensures unread { result ≡ Err GraphFault.Fault → (text : List ℕ) → IsReadFrom text lines.old (S.left shelf.old) → WhereTold (places_ahead nodes lines.old.given (ahead lines.old (S.left shelf.old))) (λ said. IsUndecided said text (S.left shelf.new)) }
     ensures unstopped { IsOk result → lines.new.stopped ≡ None }
     ensures fault { result ≡ Err GraphFault.Fault → Rose (S.faults shelf.old) (S.faults shelf.new) }
     ensures surely { S.IsSure shelf.old → result ≡ Err GraphFault.Fault → ⊥ }
@@ -116,6 +119,7 @@ fn read_each<S: Shelf>(
     ensures places { IfOk result (λ v. WhereTold (placed_ahead nodes [] lines.old.given (ahead lines.old (S.left shelf.old))) (λ answer. (placed : List Placed) × (answer ≡ Ok placed) × AreCoordinates nodes placed v.items)) }
     ensures all { IfOk result (λ v. length v.items ≡ nodes) }
     ensures refused { IfErr result (λ e. IsRefusal e → WhereTold (placed_ahead nodes [] lines.old.given (ahead lines.old (S.left shelf.old))) (λ answer. answer ≡ Err e)) }
+    ensures unread { result ≡ Err GraphFault.Fault → (text : List ℕ) → IsReadFrom text lines.old (S.left shelf.old) → WhereTold (placed_ahead nodes [] lines.old.given (ahead lines.old (S.left shelf.old))) (λ said. IsUndecided said text (S.left shelf.new)) }
     ensures fault { result ≡ Err GraphFault.Fault → Rose (S.faults shelf.old) (S.faults shelf.new) }
     ensures surely { S.IsSure shelf.old → result ≡ Err GraphFault.Fault → ⊥ }
     ensures shelf { OnlyRead S.IsBegun S.held S.names S.IsSure S.faults shelf.old shelf.new }

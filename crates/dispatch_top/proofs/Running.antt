@@ -7,7 +7,7 @@ use Rattle.road_graph.specs.Roads.{Roads}
 use Rattle.dimacs_reader.specs.declared.faults.GraphFault.{GraphFault}
 use Rattle.dimacs_reader.specs.declared.faults.GraphFault.TheVariants as graph
 use Rattle.dimacs_reader.specs.Graphs.{graph_of}
-use Rattle.dimacs_reader.specs.Refusals.{IsRefusal}
+use Rattle.dimacs_reader.specs.Refusals.{IsRefusal, IsUndecided}
 use Rattle.stop_schedule.specs.declared.vehicle.Vehicle.{Vehicle}
 use Rattle.stop_schedule.specs.Rates.{Rates}
 use Rattle.input_tables.specs.declared.faults.FleetFault.{FleetFault}
@@ -55,27 +55,27 @@ of_held P held name left b w text e = subst (λ (o : Option (List ℕ)). WhereTo
 
 -- a fault of the graph
 pub graph_fault : (held : List ℕ → Held) (a : Answering) (left : Option (List ℕ)) (fault : GraphFault) (IsBegun : Type 0) (left' : Option (List ℕ)) (old_names new_names : List (List ℕ)) (old new : Option (List ℕ))
-    → Begins (held a.graph) left → (IsRefusal fault → WhereTold left (λ text. graph_of text ≡ Err fault)) → Began 1 a old_names new_names → new ≡ old
+    → Begins (held a.graph) left → (IsRefusal fault → WhereTold left (λ text. graph_of text ≡ Err fault)) → (fault ≡ graph.Fault → WhereTold left (λ text. IsUndecided (graph_of text) text left')) → Began 1 a old_names new_names → new ≡ old
     → Ends held a (status_of (ending_of_graph fault)) IsBegun left' old_names new_names old new
-graph_fault held a left fault IsBegun left' old_names new_names old new b r n s = on fault r
+graph_fault held a left fault IsBegun left' old_names new_names old new b r u n s = on fault r u
   where
     bad : (f : GraphFault) (line : ℕ) → WhereTold left (λ text. graph_of text ≡ Err f) → ending_of_graph f ≡ GraphText line → HasBadGraph held a line
     bad f line q e = λ text k. (f, of_held (λ t. graph_of t ≡ Err f) held a.graph left b q text k, e)
 
-    on : (f : GraphFault) → (IsRefusal f → WhereTold left (λ text. graph_of text ≡ Err f)) → Ends held a (status_of (ending_of_graph f)) IsBegun left' old_names new_names old new
-    on graph.Fault q = inl (n, s)
-    on (graph.Form line) q = (n, bad (graph.Form line) line (q tt) refl, s)
-    on (graph.Count line said found) q = (n, bad (graph.Count line said found) line (q tt) refl, s)
-    on (graph.Node line) q = (n, bad (graph.Node line) line (q tt) refl, s)
-    on (graph.Weight line) q = (n, bad (graph.Weight line) line (q tt) refl, s)
-    on (graph.Limit line) q = (n, bad (graph.Limit line) line (q tt) refl, s)
-    on graph.NoMemory q = inl s
+    on : (f : GraphFault) → (IsRefusal f → WhereTold left (λ text. graph_of text ≡ Err f)) → (f ≡ graph.Fault → WhereTold left (λ text. IsUndecided (graph_of text) text left')) → Ends held a (status_of (ending_of_graph f)) IsBegun left' old_names new_names old new
+    on graph.Fault q v = inl (n, λ i. of_held (λ t. IsUndecided (graph_of t) t left') held a.graph left b (v refl), s)
+    on (graph.Form line) q v = (n, bad (graph.Form line) line (q tt) refl, s)
+    on (graph.Count line said found) q v = (n, bad (graph.Count line said found) line (q tt) refl, s)
+    on (graph.Node line) q v = (n, bad (graph.Node line) line (q tt) refl, s)
+    on (graph.Weight line) q v = (n, bad (graph.Weight line) line (q tt) refl, s)
+    on (graph.Limit line) q v = (n, bad (graph.Limit line) line (q tt) refl, s)
+    on graph.NoMemory q v = inl s
 
 -- the graph couldn't be begun
 pub begin_graph_fault : (held : List ℕ → Held) (a : Answering) (fault : BeginFault) (IsBegun : Type 0) (left : Option (List ℕ)) (old_names new_names : List (List ℕ)) (old new : Option (List ℕ))
-    → (fault ≡ Failed → new_names ≡ old_names ++ a.graph ∷ []) → new ≡ old → Ends held a (status_of (ending_of_begin fault)) IsBegun left old_names new_names old new
-begin_graph_fault held a Failed IsBegun left old_names new_names old new n s = inl (one_begun a old_names new_names (n refl), s)
-begin_graph_fault held a BeginNoMemory IsBegun left old_names new_names old new n s = inl s
+    → (fault ≡ Failed → new_names ≡ old_names ++ a.graph ∷ []) → (fault ≡ Failed → IsBegun → ⊥) → new ≡ old → Ends held a (status_of (ending_of_begin fault)) IsBegun left old_names new_names old new
+begin_graph_fault held a Failed IsBegun left old_names new_names old new n u s = inl (one_begun a old_names new_names (n refl), λ i. absurd (u refl i), s)
+begin_graph_fault held a BeginNoMemory IsBegun left old_names new_names old new n u s = inl s
 
 has_graph : (held : List ℕ → Held) (a : Answering) (g : Roads) (graph_left : Option (List ℕ)) → Begins (held a.graph) graph_left → WhereTold graph_left (λ text. graph_of text ≡ Ok g) → HasGraph held a
 has_graph held a g graph_left b w = record { roads = g; graph_read = of_held (λ t. graph_of t ≡ Ok g) held a.graph graph_left b w }

@@ -5,6 +5,7 @@ use Rattle.ride_base.specs.Prefixes.{IsReadTo}
 use Rattle.road_graph.specs.Roads.{Roads}
 use Rattle.dimacs_reader.specs.declared.faults.GraphFault.{GraphFault}
 use Rattle.dimacs_reader.specs.Graphs.{graph_of}
+use Rattle.dimacs_reader.specs.Refusals.{IsUndecided}
 use Rattle.stop_schedule.specs.declared.request.Request.{Request}
 use Rattle.stop_schedule.specs.declared.vehicle.Vehicle.{Vehicle}
 use Rattle.stop_schedule.specs.Rates.{Rates}
@@ -91,11 +92,12 @@ pub record HasGraph (held : List ℕ → Held) (a : Answering) : Type 0 where
   pub roads : Roads
   pub graph_read : OfHeld held a.graph (λ text. graph_of text ≡ Ok roads)
 
--- The shelf failed at the graph; at the fleet behind a good graph, no byte past the fleet's limit being read; or at the stream behind
--- both. Of the stream the lines that were read whole are answered, and nothing was taken where it wasn't begun.
+-- The shelf failed at the graph, before a bad line was read whole; at the fleet behind a good graph, before a byte past the fleet's limit
+-- was read; or at the stream behind both. Of the stream the lines that were read whole are answered, and nothing was taken where it
+-- wasn't begun.
 abbrev pub ReadFails : (List ℕ → Held) → Answering → (IsBegun : Type 0) → (left : Option (List ℕ)) → (old_names new_names : List (List ℕ)) → (old new : Option (List ℕ)) → Type 0
 ReadFails held a IsBegun left old_names new_names old new =
-    (Began 1 a old_names new_names × (new ≡ old))
+    (Began 1 a old_names new_names × (IsBegun → OfHeld held a.graph (λ text. IsUndecided (graph_of text) text left)) × (new ≡ old))
     ⊎ (Began 2 a old_names new_names × HasGraph held a × (IsBegun → OfHeld held a.fleet (λ text. IsReadWithin text left)) × (new ≡ old))
     ⊎ (Began 3 a old_names new_names × AfterReading held a (λ roads vehicles. ((IsBegun → ⊥) × (new ≡ old)) ⊎ EndsUnread roads a.rates vehicles (OfHeld held a.stream) left old new))
 

@@ -1,7 +1,8 @@
-use Rattle.std.proofs.Common.{◌≡◌, None}
+use Rattle.std.proofs.Common.{◌≡◌, List, ℕ, None}
 use Rattle.ride_base.specs.Outside.{OnlyRead}
 use Rattle.ride_base.specs.Told.{ahead}
 use Rattle.dimacs_reader.specs.Reading.{graph_ahead}
+use Rattle.dimacs_reader.specs.Refusals.{IsReadFrom}
 use Rattle.dimacs_reader.proofs.graphs.read_problem.Given as goal
 
 abbrev pub invariant-loop-line : goal.invariant-loop-line
@@ -10,6 +11,7 @@ invariant-loop-line g l =
     record {
       shelf : OnlyRead S.IsBegun S.held S.names S.IsSure S.faults l.fn.shelf l.shelf;
       same : graph_ahead l.lines.given (ahead l.lines (S.left l.shelf)) ≡ graph_ahead l.fn.lines.given (ahead l.fn.lines (S.left l.fn.shelf));
+      goes : (text : List ℕ) → IsReadFrom text l.fn.lines (S.left l.fn.shelf) → IsReadFrom text l.lines (S.left l.shelf);
       unstopped : l.lines.stopped ≡ None;
     }
 

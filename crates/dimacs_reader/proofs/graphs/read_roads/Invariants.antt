@@ -1,9 +1,10 @@
-use Rattle.std.proofs.Common.{◌≡◌, ◌≤◌, length, true, None}
+use Rattle.std.proofs.Common.{◌≡◌, List, ℕ, ◌≤◌, length, true, None}
 use Rattle.std.specs.List.{list_all}
 use Rattle.ride_base.specs.Outside.{OnlyRead}
 use Rattle.ride_base.specs.Told.{ahead}
 use Rattle.road_graph.specs.Roads.{is_within}
 use Rattle.dimacs_reader.specs.Reading.{roads_ahead}
+use Rattle.dimacs_reader.specs.Refusals.{IsReadFrom}
 use Rattle.dimacs_reader.proofs.Roading.{roads_said}
 use Rattle.dimacs_reader.proofs.graphs.read_roads.Given as goal
 
@@ -15,6 +16,7 @@ invariant-loop-roads g l =
       same : roads_said l.said.nodes l.said.roads l.roads l.lines.given (ahead l.lines (S.left l.shelf)) ≡ roads_ahead l.said.nodes l.said.roads 0 l.fn.lines.given (ahead l.fn.lines (S.left l.fn.shelf));
       few : length l.roads ≤ l.said.roads;
       within : list_all (is_within l.said.nodes) l.roads ≡ true;
+      goes : (text : List ℕ) → IsReadFrom text l.fn.lines (S.left l.fn.shelf) → IsReadFrom text l.lines (S.left l.shelf);
       unstopped : l.lines.stopped ≡ None;
     }
 

@@ -7,11 +7,11 @@ use Rattle.dispatch_top.proofs.runs.answer.Goals as goal
 
 pub returns-in_err-begin-clause-ends : goal.returns-in_err-begin-clause-ends
 returns-in_err-begin-clause-ends g c = let e = handed_on c.from_residual.result (ending_of_begin c.in_err-begin.field-0.0) c.from_residual.ensures in
-    rw e (begin_graph_fault _ (run_of c.args.graph_name.now c.args.fleet_name.now c.args.stream_name.now c.args.params) c.in_err-begin.field-0.0 _ _ _ _ _ _ (λ f. c.in_err-begin.ensures.failed (ap Err f)) refl)
+    rw e (begin_graph_fault _ (run_of c.args.graph_name.now c.args.fleet_name.now c.args.stream_name.now c.args.params) c.in_err-begin.field-0.0 _ _ _ _ _ _ (λ f. c.in_err-begin.ensures.failed (ap Err f)) (λ f. c.in_err-begin.ensures.unbegun (ap Err f)) refl)
 
 pub returns-in_err-graph-clause-ends : goal.returns-in_err-graph-clause-ends
 returns-in_err-graph-clause-ends g c = let e = handed_on c.from_residual-in_err-graph.result (ending_of_graph c.in_err-graph.field-0.0) c.from_residual-in_err-graph.ensures in
-    rw e (graph_fault _ (run_of c.args.graph_name.now c.args.fleet_name.now c.args.stream_name.now c.args.params) (g.S.Shelf.left c.begin.new.self) c.in_err-graph.field-0.0 _ _ _ _ _ _ c.in_ok-begin.ensures.ok.1 c.in_err-graph.ensures.refused (one_begun (run_of c.args.graph_name.now c.args.fleet_name.now c.args.stream_name.now c.args.params) _ _ (c.read_graph.ensures.shelf.named ∙ (c.in_ok-begin.ensures.named refl))) refl)
+    rw e (graph_fault _ (run_of c.args.graph_name.now c.args.fleet_name.now c.args.stream_name.now c.args.params) (g.S.Shelf.left c.begin.new.self) c.in_err-graph.field-0.0 _ _ _ _ _ _ c.in_ok-begin.ensures.ok.1 c.in_err-graph.ensures.refused (λ f. c.in_err-graph.ensures.unread (ap Err f)) (one_begun (run_of c.args.graph_name.now c.args.fleet_name.now c.args.stream_name.now c.args.params) _ _ (c.read_graph.ensures.shelf.named ∙ (c.in_ok-begin.ensures.named refl))) refl)
 
 pub returns-in_err-graph-clause-names : goal.returns-in_err-graph-clause-names
 returns-in_err-graph-clause-names g c = began 1 (run_of c.args.graph_name.now c.args.fleet_name.now c.args.stream_name.now c.args.params) _ _ (omega arith) (one_begun (run_of c.args.graph_name.now c.args.fleet_name.now c.args.stream_name.now c.args.params) _ _ (c.read_graph.ensures.shelf.named ∙ (c.in_ok-begin.ensures.named refl)))
