@@ -9,8 +9,9 @@ IsNotAfter o None = Unit {0}
 IsNotAfter None (Some p) = ⊥
 IsNotAfter (Some o) (Some p) = offer_cmp p o ≡ Less → ⊥
 
--- one of two offers, before which neither of them goes
+-- one of two offers, before which neither of them goes; the former, where the latter doesn't go before it
 pub record IsSooner (a b o : Option Offer) : Type 0 where
   pub one : (o ≡ a) ⊎ (o ≡ b)
   pub first : IsNotAfter o a
   pub second : IsNotAfter o b
+  pub former : IsNotAfter a b → o ≡ a

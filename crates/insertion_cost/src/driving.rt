@@ -12,6 +12,9 @@ use crate::listing::{new_length, new_stop};
 use crate::spans::Spans;
 use stop_schedule::{Front, Insertion, Params, Request, Schedule, Stop, StopKind};
 
+/// The most stops of a schedule.
+const MOST_STOPS: usize = 64;
+
 /// How a vehicle goes along a new list that is feasible.
 #[derive(Clone, Copy, Debug)]
 pub struct Drive {
@@ -47,7 +50,7 @@ pub fn drive_along(
     ensures some { IfSome result (IsDriven params.now schedule.now front.now request.now at (lengths_of spans.now)) }
 {
     let count = schedule.stops().len() + 2;
-    if count > 64 {
+    if count > MOST_STOPS {
         return None;
     }
     let mut departure = start(schedule, front, params, at);

@@ -6,10 +6,10 @@ ghost use Rattle.insertion_cost.specs.Sooner.{IsSooner};
 use ride_base::VehicleNo;
 use stop_schedule::Insertion;
 
-/// What it comes to that a vehicle takes a request at some place of its list.
+/// What it comes to that a vehicle takes a request at some place of its list, in the units of the roads' weights.
 #[derive(Clone, Copy, Debug, PartialEq, Eq)]
 pub struct Offer {
-    /// The cost: detour, and weighted waiting and delay.
+    /// The cost: detour, and weighted waiting and delay. It is below 2^58.
     pub cost: u64,
     /// The vehicle's number.
     pub no: VehicleNo,

@@ -8,10 +8,10 @@ use crate::driving::drive_along;
 use crate::spans::Spans;
 use stop_schedule::{Front, Insertion, Params, Promise, Request, Schedule};
 
-/// What an insertion comes to.
+/// What an insertion comes to, in the units of the roads' weights.
 #[derive(Clone, Copy, Debug, PartialEq, Eq)]
 pub struct Priced {
-    /// Its cost: detour, and weighted waiting and delay.
+    /// Its cost: detour, and weighted waiting and delay. It is below 2^58.
     pub cost: u64,
     /// When the pickup is left.
     pub leave: u64,

@@ -1,4 +1,4 @@
-/// The lengths of the legs that an insertion changes, each below 2^53.
+/// The lengths of the legs that an insertion changes, in the units of the roads' weights and each below 2^53.
 #[derive(Clone, Copy, Debug, PartialEq, Eq)]
 pub struct Spans {
     /// Into the pickup.

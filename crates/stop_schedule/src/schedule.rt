@@ -122,8 +122,8 @@ impl Schedule {
         departure
     }
 
-    /// The schedule with the request's pickup after stop i and its dropoff after stop j, both with the limits that are promised.
-    /// The walks are those of the changed legs, in rising order; where the pickup comes first, the vehicle starts from its front.
+    /// The schedule, of 62 stops at most, with the request's pickup after stop i and its dropoff after stop j, both with the limits
+    /// that are promised. The walks are those of the changed legs, in rising order; where the pickup comes first, the vehicle starts from its front.
     pub fn inserted(
         &self,
         alloc: Global,

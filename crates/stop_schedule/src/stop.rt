@@ -10,7 +10,7 @@ pub enum StopKind {
     Dropoff,
 }
 
-/// A stop of a vehicle for one request. Two stops at one node are two stops.
+/// A stop of a vehicle for one request, its times in the units of the roads' weights. Two stops at one node are two stops.
 #[derive(Clone, Copy, Debug, PartialEq, Eq)]
 pub struct Stop {
     /// Where it is.
@@ -19,15 +19,15 @@ pub struct Stop {
     pub kind: StopKind,
     /// The request that it serves.
     pub no: RequestNo,
-    /// How many get on or off.
+    /// How many get on or off, at most 16.
     pub riders: u32,
     /// Before when the vehicle doesn't leave: the request's moment at a pickup, 0 at a dropoff.
     pub ready: u64,
-    /// What was promised: the latest departure at a pickup, the latest arrival at a dropoff.
+    /// What was promised: the latest departure at a pickup, the latest arrival at a dropoff. It is below 2^60.
     pub limit: u64,
 }
 
-/// The latest pickup and the latest arrival that a rider is promised.
+/// The latest pickup and the latest arrival that a rider is promised, in the units of the roads' weights and below 2^60.
 #[derive(Clone, Copy, Debug, PartialEq, Eq)]
 pub struct Promise {
     /// The latest departure from the pickup.
@@ -36,12 +36,12 @@ pub struct Promise {
     pub arrival: u64,
 }
 
-/// Where and when a vehicle can turn to a new stop.
+/// Where and when a vehicle can turn to a new stop, in the units of the roads' weights.
 #[derive(Clone, Copy, Debug, PartialEq, Eq)]
 pub struct Front {
     /// The node.
     pub node: NodeNo,
-    /// When the vehicle is there.
+    /// When the vehicle is there, at most 2^41.
     pub time: u64,
     /// How much of the first leg is driven by then.
     pub offset: u64,

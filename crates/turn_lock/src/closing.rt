@@ -12,7 +12,8 @@ use atomic_table::Badge;
 use std::mem;
 
 impl<V: Recorded> TurnLock<V> {
-    /// Folds the other desk into the first. Its number is the one that follows the family of the first.
+    /// Folds the other desk, whose number has to follow those of the first one's family, into the first. That has then seen the longer
+    /// of the two lists that they had seen, and its family has both families.
     pub fn join(&self, desk: &mut Desk<V::Entry, V::Origin>, other: Desk<V::Entry, V::Origin>)
         requires lock { (desk.old.lock ≡ Some self.now) × (other.lock ≡ Some self.now) }
         requires next { other.number ≡ desk.old.number + desk.old.family }
@@ -28,6 +29,7 @@ impl<V: Recorded> TurnLock<V> {
         let theirs = self.seat(badge, number, family);
         let shared = &self.table.shared;
         shared.join_seat::<FoldIn>(&mut chair, theirs);
+        // What the word holds doesn't matter: the load tells what both desks had seen.
         shared.load::<LookAtJoin>(&mut chair, TICKET);
         desk.badge = chair.into_badge();
         desk.family += family;

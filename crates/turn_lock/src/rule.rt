@@ -34,8 +34,11 @@ impl<V: Recorded> TableRule<Option<V>, Place<V::Entry, V::Origin>, Key<V::Origin
     ghost first = { λ key. Living (opening_view key) };
 }
 
+/// The table of a lock: its four words, its slot and its views.
 pub type Board<V, E, O> = Table<Option<V>, Place<E, O>, Key<O>, Turns<V>, Global>;
 
+/// What all desks share of it.
 pub type Top<V, E, O> = Shared<Option<V>, Place<E, O>, Key<O>, Turns<V>>;
 
+/// A desk's seat at it during a call.
 pub type Chair<V, E, O> = Seat<Option<V>, Place<E, O>>;

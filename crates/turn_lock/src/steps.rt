@@ -46,6 +46,7 @@ pub fn wait_for_turn<V: Recorded, R: Wait>(
         if served == ticket {
             return;
         }
+        // `park` compares the low half of the word alone.
         top.park(rt, SERVING, (served & 0xffff_ffff) as u32);
     }
     unreachable!()
