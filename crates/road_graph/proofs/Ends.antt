@@ -1,5 +1,5 @@
 use Rattle.std.proofs.Common.{◌≡◌, ℕ, ◌+◌, below_more, ◌<◌, ◌≤◌, ◌^◌, ◌&&◌, ◌==◌, Bool, true, false, cond, List, [], ◌∷◌, length, map, filter, get_or, slice_get, Option, Some, None, suc, zero, sym, ap, ◌∙◌, arith, refl, subst}
-use Rattle.std.specs.Prelude.{nat_le, nat_lt, position, not}
+use Rattle.std.specs.Prelude.{nat_lt, not}
 use Rattle.std.specs.List.{position_or_len}
 use Rattle.std.proofs.lemmas.List.Sums.{position_or_len_is}
 use Rattle.std.proofs.lemmas.Bool.{not-false, not-true, false_from_ne_true, eqb-true}
@@ -7,7 +7,7 @@ use Rattle.std.proofs.lemmas.Option.{slice_get_within, get_or_from_slice_get, sl
 use Rattle.std.proofs.lemmas.Bool.Decides.{nat_tests}
 use Rattle.road_graph.specs.declared.road.NodeNo.{NodeNo}
 use Rattle.road_graph.specs.declared.road.Road.{Road}
-use Rattle.road_graph.specs.Roads.{Roads, IsNode, is_node, is_within, outs, ins, least_weight, lighter_of, most_nodes, most_roads}
+use Rattle.road_graph.specs.Roads.{Roads, IsNode, is_node, is_within, outs, ins, least_weight, lighter_of, most_roads}
 use Rattle.road_graph.specs.Listing.{least_in}
 use Rattle.road_graph.specs.declared.rows.Way.TheVariants.{Out, In}
 use Rattle.road_graph.proofs.Sums.{joint, is_node-true}

@@ -1,4 +1,4 @@
-use Rattle.std.proofs.Common.{◌≡◌, ℕ, ◌+◌, ◌*◌, ◌^◌, ◌<◌, ◌≤◌, Bool, true, false, cond, List, [], ◌∷◌, ◌++◌, length, get_or, slice_get, slice_index, take, Option, Some, None, suc, zero, sym, ap, ◌∙◌, arith, refl, subst, add-one}
+use Rattle.std.proofs.Common.{◌≡◌, ℕ, ◌+◌, ◌*◌, ◌<◌, ◌≤◌, Bool, true, false, cond, List, [], ◌∷◌, length, get_or, slice_get, slice_index, take, Option, Some, None, suc, zero, sym, ap, ◌∙◌, arith, refl, subst}
 use Rattle.std.proofs.lemmas.List.{take_more}
 use Rattle.road_graph.specs.declared.road.NodeNo.{NodeNo}
 use Rattle.road_graph.specs.Roads.{Roads, IsNode, is_node, least_weight}

@@ -1,5 +1,5 @@
-use Rattle.std.proofs.Common.{◌≡◌, ℕ, ◌+◌, ◌*◌, ◌<◌, ◌≤◌, true, false, cond, List, [], ◌∷◌, ◌++◌, length, get_or, take, drop, Option, Some, None, suc, zero, sym, ap, ◌∙◌, arith, refl, subst, below_more, slice_index}
-use Rattle.std.proofs.lemmas.List.{take_more, drop_more, get_or_append_left, get_or_push, take_all, length_push}
+use Rattle.std.proofs.Common.{◌≡◌, ℕ, ◌+◌, ◌<◌, ◌≤◌, true, false, cond, List, [], ◌∷◌, ◌++◌, length, get_or, take, drop, Option, Some, None, sym, ap, ◌∙◌, arith, refl, subst, below_more, slice_index}
+use Rattle.std.proofs.lemmas.List.{take_more, drop_more, get_or_append_left, get_or_push, length_push}
 use Rattle.road_graph.specs.declared.road.NodeNo.{NodeNo}
 use Rattle.road_graph.specs.Roads.{Roads, least_weight, is_node}
 use Rattle.road_graph.specs.Graphs.{IsGraph}

@@ -1,12 +1,11 @@
-use Rattle.std.proofs.Common.{◌≡◌, ℕ, ◌+◌, ◌<◌, ◌≤◌, ◌&&◌, ◌==◌, ◌⊎◌, inl, inr, Bool, true, false, cond, List, [], ◌∷◌, ◌++◌, length, get_or, slice_get, drop, take, Option, Some, None, suc, zero, sym, ap, ◌∙◌, arith, refl, subst, min, add_assoc}
+use Rattle.std.proofs.Common.{◌≡◌, ℕ, ◌+◌, ◌<◌, ◌≤◌, ◌&&◌, ◌==◌, ◌⊎◌, inl, inr, Bool, true, false, cond, List, [], ◌∷◌, ◌++◌, slice_get, Option, Some, None, suc, sym, ap, ◌∙◌, arith, refl, min, add_assoc}
 use Rattle.std.proofs.lemmas.Bool.{eqb-true, cases_lt}
 use Rattle.std.proofs.lemmas.Bool.Decides.{nat_tests}
-use Rattle.std.proofs.lemmas.List.{at_drop_more}
 use Rattle.std.specs.Prelude.{nat_le}
 use Rattle.road_graph.specs.declared.road.NodeNo.{NodeNo}
 use Rattle.road_graph.specs.declared.road.Road.{Road}
 use Rattle.road_graph.specs.Roads.{Roads, IsNode, is_node, least_weight, weight_on, lighter_of}
-use Rattle.road_graph.specs.Graphs.{IsGraph, IsRoadOf}
+use Rattle.road_graph.specs.Graphs.{IsGraph}
 use Rattle.road_graph.specs.Walks.{walk_length, both, last_of}
 
 pub both-assoc : (a b c : Option ℕ) → both (both a b) c ≡ both a (both b c)

@@ -1,4 +1,4 @@
-use Rattle.std.specs.Prelude.{◌≡◌, ℕ, Bool, not, ◌&&◌, nat_le, cond, List, [], ◌∷◌, length, position, Option, Some, None, refl}
+use Rattle.std.specs.Prelude.{◌≡◌, ℕ, not, ◌&&◌, nat_le, cond, List, length, position, Option, Some, None, refl}
 use Rattle.road_graph.specs.declared.road.Road.{Road}
 use Rattle.road_graph.specs.declared.graph.BuildFault.{BuildFault}
 use Rattle.road_graph.specs.declared.graph.BuildFault.TheVariants.{Large, Node, NoMemory}

@@ -8,7 +8,8 @@ ghost use Rattle.road_graph.specs.Listing.{least_in};
 use crate::road::{NodeNo, Road};
 use crate::rows::{Rows, Way};
 use crate::steps::Steps;
-use ride_base::{Items, NoMemory};
+use crate::told::Told;
+use ride_base::NoMemory;
 use std::alloc::Global;
 use std::marker::Model;
 
@@ -18,14 +19,15 @@ const MOST_NODES: u32 = 2_097_152;
 /// The most roads that a graph may have.
 const MOST_ROADS: usize = 8_388_608;
 
-/// Why a list of roads is no graph.
+/// Why no graph was built of a list of roads. Nothing of it is kept.
 #[derive(Debug, Clone, Copy, PartialEq, Eq)]
 pub enum BuildFault {
     /// There are more than 2,097,152 nodes or more than 8,388,608 roads.
     Large,
-    /// The road at this place of the list, counted from 0, is the first with an end that is no node.
+    /// The numbers are not too large, and the road at this place of the list, counted from 0, is the first with an end that is no
+    /// node.
     Node { at: usize },
-    /// There is no memory for the graph.
+    /// There is no memory for the graph, whose numbers are in order.
     NoMemory,
 }
 
@@ -40,12 +42,13 @@ impl From<NoMemory> for BuildFault {
     }
 }
 
-/// Roads between the nodes 1 to a number.
+/// Roads that go one way between numbered nodes: 0 to 8,388,608 roads, and the nodes 1 to a number, which is 0 to 2,097,152. They stand
+/// in flat arrays, row after row, and the list of them in no memory. A graph is never changed.
 #[derive(Drop)]
 pub struct Graph {
     nodes: u32,
-    /// The roads in the order in which they were given.
-    roads: Items<Road>,
+    /// The roads in the order in which they were given, for contracts alone.
+    told: Told,
     outs: Rows,
     ins: Rows,
 }
@@ -56,13 +59,14 @@ impl Model for Graph {
 
     ghost Value = { Roads };
 
-    ghost view = { λ g. record { nodes = g.nodes; roads = g.roads } };
+    ghost view = { λ g. record { nodes = g.nodes; roads = g.told.roads } };
 
-    ghost invariant = { λ g. IsRowed (record { nodes = g.nodes; roads = g.roads }) g.outs g.ins };
+    ghost invariant = { λ g. IsRowed (record { nodes = g.nodes; roads = g.told.roads }) g.outs g.ins };
 }
 
 impl Graph {
-    /// Keeps the roads between the nodes 1 to `n`, in their order.
+    /// Keeps the roads between the nodes 1 to `n`, in their order. Roads may stand side by side, and lead from a node to itself. It takes
+    /// 16 bytes a road and 8 a node. The slice is only read, and after an error nothing is kept.
     pub fn build(alloc: Global, n: u32, roads: &[Road]) -> Result<Graph, BuildFault>
         ensures graph { IfOk result (λ g. g ≡ record { nodes = n; roads = roads.now }) }
         ensures kept { IfOk result (λ g. IsGraph g) }
@@ -71,16 +75,15 @@ impl Graph {
         check(n, roads)?;
         let outs = Rows::sorted(alloc, Way::Out, n, roads)?;
         let ins = Rows::sorted(alloc, Way::In, n, roads)?;
-        let roads = Items::from_slice(alloc, roads)?;
         Ok(Graph {
             nodes: n,
-            roads,
+            told: Told::of(roads),
             outs,
             ins,
         })
     }
 
-    /// How many nodes there are.
+    /// How many nodes there are, 0 to 2,097,152: they are the nodes 1 to this number.
     pub fn nodes(&self) -> u32
         ensures nodes { result ≡ self.now.nodes }
         ensures kept { IsGraph self.now }
@@ -88,15 +91,15 @@ impl Graph {
         self.nodes
     }
 
-    /// How many roads there are.
+    /// How many roads there are, 0 to 8,388,608.
     pub fn roads(&self) -> u32
         ensures roads { result ≡ length self.now.roads }
         ensures kept { IsGraph self.now }
     {
-        self.roads.as_slice().len() as u32
+        self.outs.count() as u32
     }
 
-    /// Whether it is one of the nodes.
+    /// Whether it is one of the nodes: its number is 1 to the number of nodes.
     pub(crate) fn has(&self, node: NodeNo) -> bool
         ensures node { result ≡ is_node self.now.nodes node }
         ensures kept { IsGraph self.now }
@@ -104,7 +107,7 @@ impl Graph {
         is_among(self.nodes, node)
     }
 
-    /// How many roads lead out of a node.
+    /// How many roads lead out of a node, those to itself among them. It reads no road.
     pub fn out_count(&self, node: NodeNo) -> u32
         requires { IsNode self.now node }
         ensures count { result ≡ length (outs self.now node) }
@@ -113,7 +116,7 @@ impl Graph {
         self.outs_of(node).len() as u32
     }
 
-    /// How many roads lead into a node.
+    /// How many roads lead into a node, those from itself among them. It reads no road.
     pub fn in_count(&self, node: NodeNo) -> u32
         requires { IsNode self.now node }
         ensures count { result ≡ length (ins self.now node) }
@@ -122,7 +125,8 @@ impl Graph {
         self.ins_of(node).len() as u32
     }
 
-    /// The other end and the weight of a road out of a node, by its place among them in the order of the list.
+    /// The node that a road out of a node leads to, and its weight in the graph's weight units. The place counts from 0 among the roads
+    /// out of the node, in the order of the list. It counts one road read.
     pub fn out_road<L>(&self, node: NodeNo, index: u32, steps: &mut Steps<L>) -> (NodeNo, u32)
         requires node { IsNode self.now node }
         requires index { index < length (outs self.now node) }
@@ -135,7 +139,8 @@ impl Graph {
         self.outs_of(node)[index as usize]
     }
 
-    /// The other end and the weight of a road into a node, by its place among them in the order of the list.
+    /// The node that a road into a node comes from, and its weight in the graph's weight units. The place counts from 0 among the roads
+    /// into the node, in the order of the list. It counts one road read.
     pub fn in_road<L>(&self, node: NodeNo, index: u32, steps: &mut Steps<L>) -> (NodeNo, u32)
         requires node { IsNode self.now node }
         requires index { index < length (ins self.now node) }
@@ -148,7 +153,8 @@ impl Graph {
         self.ins_of(node)[index as usize]
     }
 
-    /// The least weight of the roads from one node to another. It reads each road out of the first once.
+    /// The least weight of the roads from one node to another, in the graph's weight units; none where no road leads so, or where the
+    /// first is no node. It reads each road out of the first once, and counts it.
     pub fn joined<L>(&self, from: NodeNo, to: NodeNo, steps: &mut Steps<L>) -> Option<u32>
         ensures weight { result ≡ least_weight self.now.roads from to }
         ensures steps { steps.new ≡ (steps.old.0 + length (outs self.now from), steps.old.1) }
@@ -179,8 +185,9 @@ impl Graph {
         self.ins.at(node)
     }
 
-    /// The length of a list of nodes as a walk, where it is one: each node but the last is joined to the next,
-    /// and the length is the sum of the least weights of their roads.
+    /// The length of a list of nodes as a walk, in the graph's weight units, where it is one: each node but the last is joined to the
+    /// next, and the length is the sum of the least weights of their roads. One node of the graph is a walk of length 0, and no nodes
+    /// are none. At most 4,194,304 nodes. It counts the roads that it reads.
     pub fn walk_length<L>(&self, nodes: &[NodeNo], steps: &mut Steps<L>) -> Option<u64>
         requires { length nodes.now ≤ 4194304 }
         ensures length { result ≡ length_as_walk self.now nodes.now }
@@ -232,17 +239,13 @@ fn is_among(nodes: u32, node: NodeNo) -> bool
     1 <= node.0 && node.0 <= nodes
 }
 
-/// Whether an end of the road is none of so many nodes.
+/// Whether an end of the road is none of so many nodes. A clause over a list knows no range of its weights: the caller has it from
+/// `light`.
 fn leaves(nodes: u32, road: Road) -> bool
     ensures leaves { result ≡ not (is_within nodes road) }
     ensures light { road.weight < 2 ^ 32 }
 {
-    let Road {
-        from,
-        to,
-        weight: _,
-    } = road;
-    !(is_among(nodes, from) && is_among(nodes, to))
+    !(is_among(nodes, road.from) && is_among(nodes, road.to))
 }
 
 /// The least weight in a row of roads that lead to a node.

@@ -6,6 +6,7 @@ mod road;
 mod rows;
 mod short;
 mod steps;
+mod told;
 mod walk;
 
 pub use graph::{BuildFault, Graph};

@@ -1,4 +1,4 @@
-/// The number of a node: 1 to the number of nodes in a graph.
+/// The number of a node. A graph has the nodes 1 to at most 2,097,152; any other number may stand here, and is no node of it.
 #[derive(Clone, Copy, Debug, PartialEq, Eq, PartialOrd, Ord)]
 pub struct NodeNo(pub u32);
 
@@ -13,10 +13,13 @@ impl Default for NodeNo {
     }
 }
 
-/// A road that goes one way, with its weight in the graph's weight units.
+/// A road that goes one way.
 #[derive(Clone, Copy, Debug, PartialEq, Eq)]
 pub struct Road {
+    /// The node that it leads out of.
     pub from: NodeNo,
+    /// The node that it leads into, which may be the same.
     pub to: NodeNo,
+    /// How long it takes to go along it, in the graph's weight units: any number, 0 among them.
     pub weight: u32,
 }

@@ -30,7 +30,8 @@ impl Tally {
     {}
 }
 
-/// How many roads were read, and how many offers were asked for.
+/// How many roads were read, and how many offers were asked for. Both take no bytes and have no upper end: contracts speak of them, and
+/// no code can read them.
 ///
 /// The ledger marks whose count it is, and holds nothing that is counted.
 #[derive(Drop)]
@@ -58,14 +59,14 @@ impl<L> Steps<L> {
         }
     }
 
-    /// Counts one road that is read.
+    /// Counts one road that is read. The asks stay.
     pub fn tick(&mut self)
         ensures { self.new ≡ (self.old.0 + 1, self.old.1) }
     {
         self.steps.raise(1);
     }
 
-    /// Counts that many offers that are asked for.
+    /// Counts that many offers that are asked for, which may be none. The roads stay.
     pub fn ask(&mut self, count: usize)
         ensures { self.new ≡ (self.old.0, self.old.1 + count) }
     {

@@ -12,7 +12,8 @@ use std::alloc::Global;
 use std::default::MadeWith;
 use std::marker::Model;
 
-/// A walk, and how far each of its nodes is from the first, in the graph's weight units.
+/// A walk of one node or more, and how far each of its nodes is from the first along it, in the graph's weight units. The offsets begin
+/// at 0 and never fall. A walk of one node takes no memory beside itself. It doesn't keep the graph that it is a walk of.
 #[derive(Debug, PartialEq, Eq, Drop)]
 pub struct Walk {
     nodes: Short<NodeNo>,
@@ -32,7 +33,8 @@ impl Model for Walk {
 }
 
 impl Walk {
-    /// The nodes as a walk of the graph; none where they are no walk of it.
+    /// The nodes as a walk of the graph; none where they are no walk of it, as where there are none. Of parallel roads it takes the
+    /// least weight. At most 4,194,304 nodes. It counts the roads that it reads, also where memory ends; nothing else is left then.
     pub fn made<L>(
         alloc: Global,
         graph: &Graph,
@@ -51,7 +53,7 @@ impl Walk {
         Ok(Some(Walk { nodes, offsets }))
     }
 
-    /// The nodes in their order, at least one.
+    /// The nodes in their order, at least one. A node may stand more than once.
     pub fn nodes(&self) -> &[NodeNo]
         ensures nodes { result.now ≡ self.now.nodes }
         ensures path { IsPath self.now }
@@ -59,7 +61,7 @@ impl Walk {
         self.nodes.as_slice()
     }
 
-    /// How far the node at a place is from the first.
+    /// How far the node at a place, counted from 0, is from the first along the walk, in the graph's weight units.
     pub fn offset(&self, k: usize) -> u64
         requires { k < length self.now.nodes }
         ensures offset { result ≡ slice_index self.now.offsets k }
@@ -68,7 +70,7 @@ impl Walk {
         self.offsets.as_slice()[k]
     }
 
-    /// How far the last node is from the first.
+    /// How far the last node is from the first along the walk, in the graph's weight units; 0 for one node.
     pub fn length(&self) -> u64
         ensures length { result ≡ length_of self.now }
         ensures path { IsPath self.now }
@@ -77,7 +79,7 @@ impl Walk {
         offsets[offsets.len() - 1]
     }
 
-    /// An equal walk.
+    /// An equal walk. After an error nothing is left of it, and this walk is as it was.
     pub fn share(&self, alloc: Global) -> Result<Walk, NoMemory>
         ensures { IfOk result (λ w. w ≡ self.now) }
     {

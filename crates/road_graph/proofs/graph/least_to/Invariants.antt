@@ -1,4 +1,4 @@
-use Rattle.std.proofs.Common.{◌≡◌, ◌+◌, drop, length}
+use Rattle.std.proofs.Common.{◌≡◌, ◌+◌, drop}
 use Rattle.road_graph.specs.Roads.{lighter_of}
 use Rattle.road_graph.specs.Listing.{least_in}
 use Rattle.road_graph.proofs.graph.least_to.Given as goal

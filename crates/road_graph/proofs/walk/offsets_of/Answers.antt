@@ -1,4 +1,4 @@
-use Rattle.std.proofs.Common.{◌≡◌, ◌∙◌, ap, sym, refl, arith, ◌∷◌, ◌++◌, [], Some, List, get_or, subst, ℕ, ◌+◌}
+use Rattle.std.proofs.Common.{◌≡◌, ◌∙◌, ap, sym, refl, arith, ◌∷◌, Some, List, get_or, subst, ℕ, ◌+◌}
 use Rattle.road_graph.specs.declared.road.NodeNo.{NodeNo}
 use Rattle.road_graph.specs.Roads.{least_weight}
 use Rattle.road_graph.specs.Walks.{walk_length}

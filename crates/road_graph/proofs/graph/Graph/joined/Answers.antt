@@ -1,4 +1,4 @@
-use Rattle.std.proofs.Common.{subst, sym, ap, ◌∙◌, ◌≡◌, length, arith, ℕ, List, ◌+◌}
+use Rattle.std.proofs.Common.{sym, ap, ◌∙◌, ◌≡◌, length, arith, ℕ, List, ◌+◌}
 use Rattle.road_graph.specs.declared.road.NodeNo.{NodeNo}
 use Rattle.road_graph.specs.Roads.{outs}
 use Rattle.road_graph.specs.Listing.{least_in}

@@ -1,4 +1,4 @@
-use Rattle.road_graph.proofs.Walking.{[], ◌∷◌, refl, proved, ftrue, flft, named, vunit, vint, w64, tables, ‵, ◌⊛◌, ◌$◌, ◌∵◌, !, qed, done, move, keep, drop, split, join, fsplit, fsplit3, fjoin, feq_i, suffices, frame, group, enter, of_opd, unit_lit, returns, alloc_all, pass_all, free_all, look_at, sets, usize, yes, uint_Makes, uint_vals, uint_Tells, MutRef, mut_vals, mut_Tells, plain, nothing, owned, opens, closes, Stays, walk_of, says, stay_dropped, Goes-dropped, stay_ref, Goes-ref, ends_at}
+use Rattle.road_graph.proofs.Walking.{[], ◌∷◌, refl, proved, ftrue, flft, named, vunit, w64, tables, ‵, ◌⊛◌, ◌$◌, ◌∵◌, !, qed, done, move, keep, split, join, fsplit, fsplit3, fjoin, feq_i, suffices, frame, group, enter, of_opd, unit_lit, returns, alloc_all, pass_all, free_all, look_at, sets, usize, yes, uint_vals, uint_Tells, MutRef, mut_vals, mut_Tells, plain, nothing, opens, closes, Stays, walk_of, says, stay_dropped, Goes-dropped, stay_ref, Goes-ref, ends_at}
 use Prim.Native.Nat.{◌+◌}
 use Rattle.road_graph.specs.contracts.steps.Tally.raise as f
 use Rattle.road_graph.proofs.steps.Tally.raise.Statement.{statement}
