@@ -96,6 +96,48 @@ fn lines_come_in_order(rt: HostRuntime) -> Result<(), Fail> {
     Ok(())
 }
 
+/// Whether the next line, read into this one, has this number and these bytes, and a line end behind it or none.
+fn reads(
+    lines: &mut Lines,
+    shelf: &mut MemoryShelf,
+    line: &mut Line,
+    number: u64,
+    bytes: &[u8],
+    ended: bool,
+) -> bool
+    requires { IsSome shelf.old.begun }
+    ensures { IsSome shelf.new.begun }
+{
+    lines.read_line(shelf, line) == Ok(true)
+        && is_line(line, number, bytes, ended)
+        && lines.given() == number
+}
+
+fn check_reads(rt: &impl Abort, alloc: Global, shelf: &mut MemoryShelf)
+    requires { IsSome shelf.old.begun }
+{
+    let mut lines = Lines::new(alloc, 5);
+    let mut line = Line::new(alloc);
+    assert!(rt; reads(&mut lines, shelf, &mut line, 1, b"a", true));
+    assert!(rt; reads(&mut lines, shelf, &mut line, 2, b"", true));
+    assert!(rt; reads(&mut lines, shelf, &mut line, 3, b"b", false));
+    assert!(rt; ends(alloc, &mut lines, shelf));
+}
+
+#[test]
+fn lines_are_read_into_one(rt: HostRuntime) -> Result<(), Fail> {
+    check_reads(&rt, rt.alloc(), &mut begun(rt.alloc(), TEXT, 1)?);
+    Ok(())
+}
+
+#[test]
+fn a_reader_at_the_end_reads_no_more(rt: HostRuntime) -> Result<(), Fail> {
+    let mut shelf = begun(rt.alloc(), TEXT, 100)?;
+    shelf.fail(rt.alloc(), "text", 3)?;
+    check_lines(&rt, rt.alloc(), &mut shelf);
+    Ok(())
+}
+
 fn check_stop(rt: &impl Abort, alloc: Global, shelf: &mut MemoryShelf)
     requires { IsSome shelf.old.begun }
 {
@@ -278,8 +320,10 @@ fn items_keep_what_is_pushed(rt: HostRuntime) -> Result<(), Fail> {
 
 #[test]
 fn items_are_copied(rt: HostRuntime) -> Result<(), Fail> {
-    let copied = Items::from_slice(rt.alloc(), [7u32, 9].as_slice())?;
-    assert_eq!(rt; copied.into_vec().as_slice(), [7u32, 9].as_slice());
+    let mut copied = Items::from_slice(rt.alloc(), [7u32, 9].as_slice())?;
+    assert_eq!(rt; copied.as_slice(), [7u32, 9].as_slice());
+    copied.refill([5u32].as_slice())?;
+    assert_eq!(rt; copied.into_vec().as_slice(), [5u32].as_slice());
     Ok(())
 }
 

@@ -1,4 +1,4 @@
-pub mod Ending
+pub mod Giving
 pub mod Joining
 pub mod Placing
 pub mod Roading

@@ -8,6 +8,7 @@ use Rattle.std.proofs.lemmas.Bool.Decides.{nat_tests}
 use Rattle.std.proofs.lemmas.List.{get_or-set_same, get_or-set_other}
 use Rattle.std.proofs.lemmas.List.Folds.{list_any-append, list_any_at}
 use Rattle.std.proofs.lemmas.Option.{slice_get-get_or, slice_get_within, get_or_from_slice_get}
+use Rattle.ride_base.specs.Fields.{capped}
 use Rattle.ride_base.specs.Pieces.{Piece}
 use Rattle.ride_base.specs.declared.lines.Line.{Line}
 use Rattle.road_graph.specs.Roads.{is_node, node}
@@ -15,18 +16,19 @@ use Rattle.dimacs_reader.specs.declared.faults.GraphFault.{GraphFault}
 use Rattle.dimacs_reader.specs.declared.faults.GraphFault.TheVariants.{Weight, Node}
 use Rattle.dimacs_reader.specs.declared.places.Placing.{Placing}
 use Rattle.dimacs_reader.specs.Forms.{place_line}
-use Rattle.dimacs_reader.specs.Places.{Placed, places_behind, later_line, place_and, stood_before, is_coordinate, onto_places}
-use Rattle.dimacs_reader.specs.Reading.{cut, GivesLine, AreKept, placed_by, placed_ahead, places_with}
+use Rattle.dimacs_reader.specs.Graphs.{onto}
+use Rattle.dimacs_reader.specs.Places.{Placed, places_behind, later_line, place_and, stood_before, is_coordinate}
+use Rattle.dimacs_reader.specs.Reading.{GivesLine, AreKept, placed_by, placed_and, by_answer}
 use Rattle.dimacs_reader.proofs.Joining.{joined}
 
 -- where each of so many nodes that has the number has a place, the line names no node without one
 pub no_place : (nodes number line : ℕ) (before : List Placed) (held : List (ℤ × ℤ)) (marks : List Bool) (count : ℕ) (x y : ℤ) (rest : Result (List Placed) GraphFault) → nodes < 2 ^ 32
-    → AreKept nodes before held marks count → ((i : ℕ) → cut number ≡ i + 1 → i < length marks → get_or marks i false ≡ true)
+    → AreKept nodes before held marks count → ((i : ℕ) → capped number ≡ i + 1 → i < length marks → get_or marks i false ≡ true)
     → place_and nodes line before (record { node = number; x = x; y = y }) rest ≡ Err (Node line)
 no_place nodes number line before held marks count x y rest n kept stands = on (is_node nodes (node number)) refl
   where
     on : (b : Bool) → is_node nodes (node number) ≡ b
-        → cond (b && not (stood_before before number)) (cond (is_coordinate x && is_coordinate y) (onto_places (record { node = number; x = x; y = y }) rest) (Err (Weight line))) (Err (Node line)) ≡ Err (Node line)
+        → cond (b && not (stood_before before number)) (cond (is_coordinate x && is_coordinate y) (onto (record { node = number; x = x; y = y }) rest) (Err (Weight line))) (Err (Node line)) ≡ Err (Node line)
     on false e = refl
     on true e =
         let low : 1 ≤ number = grind (arith, nat_tests, common_steps) in
@@ -38,7 +40,7 @@ no_place nodes number line before held marks count x y rest n kept stands = on (
 
 -- the places that were read, and those that the pieces ahead say
 abbrev pub places_said : (nodes : ℕ) → List Placed → (given : ℕ) → Option (List Piece) → Option (Result (List Placed) GraphFault)
-places_said nodes done given pieces = option_map (joined done) (placed_ahead nodes done given pieces)
+places_said nodes done given pieces = option_map (λ more. joined done (places_behind nodes (given + 1) done more)) pieces
 
 -- an element of a list with one more at its end
 at_append : (done : List Placed) (p q : Placed) (k : ℕ) → slice_get (done ++ p ∷ []) k ≡ Some q → (slice_get done k ≡ Some q) ⊎ (q ≡ p)
@@ -133,7 +135,7 @@ kept_more nodes done held marks count placing kept inside free =
         get_or-set_other marks placing.index i true false other ∙ kept.marks_are i below
         ∙ sym (stood_more done (placed_by placing) (i + 1) ∙ rw unstood (or_false (stood_before done (i + 1))))
 
-onto-joined : (done : List Placed) (p : Placed) (rest : Result (List Placed) GraphFault) → joined done (onto_places p rest) ≡ joined (done ++ p ∷ []) rest
+onto-joined : (done : List Placed) (p : Placed) (rest : Result (List Placed) GraphFault) → joined done (onto p rest) ≡ joined (done ++ p ∷ []) rest
 onto-joined done p (Ok rest) = ap Ok (sym (append_assoc done (p ∷ []) rest))
 onto-joined done p (Err error) = refl
 
@@ -142,15 +144,15 @@ abbrev pub placed_of : Option Placing → List Placed
 placed_of placing = option_to_list (option_map placed_by placing)
 
 one_line : (nodes given : ℕ) (done : List Placed) (placing : Option Placing) (after : List Piece)
-    → joined done (places_with (Ok placing) (places_behind nodes (given + 1) done after) (λ place. places_behind nodes (given + 1) (done ++ place ∷ []) after))
+    → joined done (by_answer (Ok placing) (places_behind nodes (given + 1) done after) (placed_and (λ place. places_behind nodes (given + 1) (done ++ place ∷ []) after)))
     ≡ joined (done ++ placed_of placing) (places_behind nodes (given + 1) (done ++ placed_of placing) after)
 one_line nodes given done None after = rw (append-nil done) refl
 one_line nodes given done (Some placing) after = onto-joined done (placed_by placing) (places_behind nodes (given + 1) (done ++ placed_by placing ∷ []) after)
 
 -- a line more is read behind the header
 pub places_step : (nodes given given' : ℕ) (done : List Placed) (before after : Option (List Piece)) (line : Line) (placing : Option Placing)
-    → GivesLine given before (Ok (Some line)) after → line.number ≡ given + 1 → given' ≡ given + 1
-    → ((passed : Result (List Placed) GraphFault) (another : Placed → Result (List Placed) GraphFault) → later_line nodes line.number done (place_line line.bytes) passed another ≡ places_with (Ok placing) passed another)
+    → GivesLine given before (Ok true) line after → line.number ≡ given + 1 → given' ≡ given + 1
+    → ((skipped : Result (List Placed) GraphFault) (another : Placed → Result (List Placed) GraphFault) → later_line nodes line.number done (place_line line.bytes) skipped another ≡ by_answer (Ok placing) skipped (placed_and another))
     → places_said nodes (done ++ placed_of placing) given' after ≡ places_said nodes done given before
 places_step nodes given given' done None None line placing g n n' says = refl
 places_step nodes given given' done None (Some after) line placing g n n' says = cc
@@ -161,7 +163,7 @@ places_step nodes given given' done (Some before) (Some after) line placing g n 
     ∙ ap (λ (r : Result (List Placed) GraphFault). Some (joined done r)) (sym
     (ap (places_behind nodes (given + 1) done) g
     ∙ subst (λ (k : ℕ). later_line nodes k done (place_line line.bytes) (places_behind nodes (given + 1 + 1) done after) (λ place. places_behind nodes (given + 1 + 1) (done ++ place ∷ []) after)
-    ≡ places_with (Ok placing) (places_behind nodes (given + 1 + 1) done after) (λ place. places_behind nodes (given + 1 + 1) (done ++ place ∷ []) after)) n (says _ _)))
+    ≡ by_answer (Ok placing) (places_behind nodes (given + 1 + 1) done after) (placed_and (λ place. places_behind nodes (given + 1 + 1) (done ++ place ∷ []) after))) n (says _ _)))
 
 -- no more places than nodes
 pub few_more : (nodes count count' : ℕ) (placing : Option Placing) → count ≤ nodes → IfSome placing (λ p. count < nodes) → count' ≡ count + length (option_to_list placing) → count' ≤ nodes

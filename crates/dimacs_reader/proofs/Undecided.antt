@@ -1,21 +1,18 @@
-use Rattle.std.proofs.Common.{◌≡◌, ℕ, ◌+◌, ◌<◌, ◌≤◌, Bool, true, false, cond, List, [], ◌∷◌, ◌++◌, length, Option, Some, None, Result, Ok, Err, refl, sym, subst, arith}
-use Rattle.std.specs.Prelude.{◌==◌, ◌&&◌, nat_le, not}
+use Rattle.std.proofs.Common.{◌≡◌, ℕ, ◌+◌, ◌<◌, ◌≤◌, Bool, true, false, cond, List, [], ◌∷◌, ◌++◌, length, Option, Some, None, Result, Ok, Err, sym, ap, subst, ◌∙◌, arith}
+use Rattle.std.specs.Prelude.{◌==◌, ◌&&◌, nat_le, not, IsErr, IsErrAnd}
 use Rattle.std.specs.Option.{option_map}
-use Rattle.ride_base.specs.Pieces.{Piece, Whole, TooLong, TooLarge, ended_lines}
+use Rattle.ride_base.specs.Pieces.{Piece, Whole, TooLong, TooLarge, pieces, ended_lines, largest_text}
 use Rattle.ride_base.specs.Reader.{Reader}
 use Rattle.ride_base.specs.Told.{WhereTold, ahead}
 use Rattle.road_graph.specs.declared.road.Road.{Road}
 use Rattle.road_graph.specs.Roads.{Roads, is_node, most_nodes, most_roads, node}
 use Rattle.dimacs_reader.specs.declared.faults.GraphFault.{GraphFault}
-use Rattle.dimacs_reader.specs.declared.faults.GraphFault.TheVariants.{Count, Node, Weight, Limit}
-use Rattle.dimacs_reader.specs.Forms.{GraphLine, Skipped, Problem, Arc, Formless, graph_line, PlaceLine, Passed, Header, Place, Shapeless, place_line}
-use Rattle.dimacs_reader.specs.Graphs.{largest_text, largest_weight, graph_of, graph_in, first_line, roads_in, arc_line, road_and, onto_roads, over_nodes}
-use Rattle.dimacs_reader.specs.Places.{Placed, is_coordinate, stood_before, onto_places, place_and, later_line, places_behind, opening_line, places_in, places_of}
-use Rattle.dimacs_reader.specs.Reading.{graph_ahead, places_ahead}
-use Rattle.dimacs_reader.specs.Refusals.{AreFewEnded, IsReadFrom, IsUndecided, line_of}
+use Rattle.dimacs_reader.specs.declared.faults.GraphFault.TheVariants.{Fault, Count, Node, Weight, Limit}
+use Rattle.dimacs_reader.specs.Forms.{GraphLine, Skipped, Problem, Arc, Formless, graph_line, PlaceLine, Header, Place, place_line}
+use Rattle.dimacs_reader.specs.Graphs.{largest_weight, graph_in, first_line, roads_in, arc_line, road_and, map_ok, onto, over_nodes}
+use Rattle.dimacs_reader.specs.Places.{Placed, is_coordinate, stood_before, place_and, later_line, places_behind, opening_line, places_in}
+use Rattle.dimacs_reader.specs.Refusals.{IsReadBehind, IsReadFrom, IsUndecided, line_of}
 use Rattle.dimacs_reader.proofs.Joining.{joined}
-use Rattle.dimacs_reader.proofs.Placing.{places_said}
-use Rattle.dimacs_reader.proofs.Roading.{roads_said}
 
 -- A refusal names none of the lines before those that it is about.
 
@@ -35,25 +32,17 @@ later line (Err error) h = omega (arith, h)
 same_line : (line : ℕ) → line ≤ line
 same_line line = omega arith
 
-late_onto : (line : ℕ) (road : Road) (x : Result (List Road) GraphFault) → IsLate line x → IsLate line (onto_roads road x)
-late_onto line road (Ok x) h = tt
-late_onto line road (Err error) h = h
-
-late_over : (line nodes : ℕ) (x : Result (List Road) GraphFault) → IsLate line x → IsLate line (over_nodes nodes x)
-late_over line nodes (Ok x) h = tt
-late_over line nodes (Err error) h = h
-
-late_placed : (line : ℕ) (place : Placed) (x : Result (List Placed) GraphFault) → IsLate line x → IsLate line (onto_places place x)
-late_placed line place (Ok x) h = tt
-late_placed line place (Err error) h = h
+late_map : {X Y : Type 0} (line : ℕ) (f : X → Y) (x : Result X GraphFault) → IsLate line x → IsLate line (map_ok f x)
+late_map line f (Ok x) h = tt
+late_map line f (Err error) h = h
 
 late_arc : (nodes said found line : ℕ) (g : GraphLine) (skipped another : Result (List Road) GraphFault) → IsLate line skipped → IsLate line another → IsLate line (arc_line nodes said found line g skipped another)
 late_arc nodes said found line Skipped skipped another hs ha = hs
 late_arc nodes said found line (Problem n m) skipped another hs ha = same_line line
 late_arc nodes said found line (Arc from to weight) skipped another hs ha =
     late_cond (found == said) line (Err (Count line said (found + 1))) (road_and nodes line from to weight another) (same_line line)
-    (late_cond (is_node nodes (node from) && is_node nodes (node to)) line (cond (nat_le weight largest_weight) (onto_roads (record { from = node from; to = node to; weight = weight }) another) (Err (Weight line))) (Err (Node line))
-    (late_cond (nat_le weight largest_weight) line (onto_roads (record { from = node from; to = node to; weight = weight }) another) (Err (Weight line)) (late_onto line (record { from = node from; to = node to; weight = weight }) another ha) (same_line line))
+    (late_cond (is_node nodes (node from) && is_node nodes (node to)) line (cond (nat_le weight largest_weight) (onto (record { from = node from; to = node to; weight = weight }) another) (Err (Weight line))) (Err (Node line))
+    (late_cond (nat_le weight largest_weight) line (onto (record { from = node from; to = node to; weight = weight }) another) (Err (Weight line)) (late_map line _ another ha) (same_line line))
     (same_line line))
 late_arc nodes said found line Formless skipped another hs ha = same_line line
 
@@ -69,11 +58,11 @@ late_roads nodes said found line (TooLarge ∷ more) = same_line line
 late_first : (line : ℕ) (g : GraphLine) (skipped : Result Roads GraphFault) (behind : ℕ → ℕ → Result (List Road) GraphFault) → IsLate line skipped → ((n m : ℕ) → IsLate line (behind n m)) → IsLate line (first_line line g skipped behind)
 late_first line Skipped skipped behind hs hb = hs
 late_first line (Problem n m) skipped behind hs hb =
-    late_cond (nat_le n most_nodes && nat_le m most_roads) line (over_nodes n (behind n m)) (Err (Limit line)) (late_over line n (behind n m) (hb n m)) (same_line line)
+    late_cond (nat_le n most_nodes && nat_le m most_roads) line (over_nodes n (behind n m)) (Err (Limit line)) (late_map line _ (behind n m) (hb n m)) (same_line line)
 late_first line (Arc from to weight) skipped behind hs hb = same_line line
 late_first line Formless skipped behind hs hb = same_line line
 
-late_graph : (line : ℕ) (ps : List Piece) → IsLate line (graph_in line ps)
+pub late_graph : (line : ℕ) (ps : List Piece) → IsLate line (graph_in line ps)
 late_graph line [] = same_line line
 late_graph line (Whole bytes ∷ more) =
     late_first line (graph_line bytes) (graph_in (line + 1) more) (λ nodes said. roads_in nodes said 0 (line + 1) more)
@@ -82,16 +71,16 @@ late_graph line (Whole bytes ∷ more) =
 late_graph line (TooLong ∷ more) = same_line line
 late_graph line (TooLarge ∷ more) = same_line line
 
-late_later : (nodes line : ℕ) (before : List Placed) (g : PlaceLine) (passed : Result (List Placed) GraphFault) (another : Placed → Result (List Placed) GraphFault) → IsLate line passed → ((p : Placed) → IsLate line (another p)) → IsLate line (later_line nodes line before g passed another)
-late_later nodes line before Passed passed another hp ha = hp
-late_later nodes line before (Header n) passed another hp ha = same_line line
-late_later nodes line before (Place n x y) passed another hp ha =
+late_later : (nodes line : ℕ) (before : List Placed) (g : PlaceLine) (skipped : Result (List Placed) GraphFault) (another : Placed → Result (List Placed) GraphFault) → IsLate line skipped → ((p : Placed) → IsLate line (another p)) → IsLate line (later_line nodes line before g skipped another)
+late_later nodes line before Skipped skipped another hp ha = hp
+late_later nodes line before (Header n) skipped another hp ha = same_line line
+late_later nodes line before (Place n x y) skipped another hp ha =
     let place : Placed = record { node = n; x = x; y = y } in
     late_cond (length before == nodes) line (Err (Count line nodes (nodes + 1))) (place_and nodes line before place (another place)) (same_line line)
-    (late_cond (is_node nodes (node n) && not (stood_before before n)) line (cond (is_coordinate x && is_coordinate y) (onto_places place (another place)) (Err (Weight line))) (Err (Node line))
-    (late_cond (is_coordinate x && is_coordinate y) line (onto_places place (another place)) (Err (Weight line)) (late_placed line place (another place) (ha place)) (same_line line))
+    (late_cond (is_node nodes (node n) && not (stood_before before n)) line (cond (is_coordinate x && is_coordinate y) (onto place (another place)) (Err (Weight line))) (Err (Node line))
+    (late_cond (is_coordinate x && is_coordinate y) line (onto place (another place)) (Err (Weight line)) (late_map line _ (another place) (ha place)) (same_line line))
     (same_line line))
-late_later nodes line before Shapeless passed another hp ha = same_line line
+late_later nodes line before Formless skipped another hp ha = same_line line
 
 late_behind : (nodes line : ℕ) (before : List Placed) (ps : List Piece) → IsLate line (places_behind nodes line before ps)
 late_behind nodes line before [] = late_cond (length before == nodes) line (Ok []) (Err (Count line nodes (length before))) tt (same_line line)
@@ -102,15 +91,15 @@ late_behind nodes line before (Whole bytes ∷ more) =
 late_behind nodes line before (TooLong ∷ more) = same_line line
 late_behind nodes line before (TooLarge ∷ more) = same_line line
 
-late_opening : (nodes line : ℕ) (g : PlaceLine) (passed behind : Result (List Placed) GraphFault) → IsLate line passed → IsLate line behind → IsLate line (opening_line nodes line g passed behind)
-late_opening nodes line Passed passed behind hp hb = hp
-late_opening nodes line (Header n) passed behind hp hb =
+late_opening : (nodes line : ℕ) (g : PlaceLine) (skipped behind : Result (List Placed) GraphFault) → IsLate line skipped → IsLate line behind → IsLate line (opening_line nodes line g skipped behind)
+late_opening nodes line Skipped skipped behind hp hb = hp
+late_opening nodes line (Header n) skipped behind hp hb =
     late_cond (nat_le n most_nodes) line (cond (n == nodes) behind (Err (Count line n nodes))) (Err (Limit line))
     (late_cond (n == nodes) line behind (Err (Count line n nodes)) hb (same_line line)) (same_line line)
-late_opening nodes line (Place n x y) passed behind hp hb = same_line line
-late_opening nodes line Shapeless passed behind hp hb = same_line line
+late_opening nodes line (Place n x y) skipped behind hp hb = same_line line
+late_opening nodes line Formless skipped behind hp hb = same_line line
 
-late_places : (nodes line : ℕ) (ps : List Piece) → IsLate line (places_in nodes line ps)
+pub late_places : (nodes line : ℕ) (ps : List Piece) → IsLate line (places_in nodes line ps)
 late_places nodes line [] = same_line line
 late_places nodes line (Whole bytes ∷ more) =
     late_opening nodes line (place_line bytes) (places_in nodes (line + 1) more) (places_behind nodes (line + 1) [] more)
@@ -119,45 +108,29 @@ late_places nodes line (Whole bytes ∷ more) =
 late_places nodes line (TooLong ∷ more) = same_line line
 late_places nodes line (TooLarge ∷ more) = same_line line
 
--- Where the shelf failed behind so many lines, the lines ahead are refused by none of those before.
-undecided : {X : Type 0} (said : Result X GraphFault) (text : List ℕ) (left : Option (List ℕ)) (given : ℕ) → AreFewEnded text left given → IsLate (given + 1) said → IsUndecided said text left
-undecided {X = X} said text left given f late = (f.0, λ fault e. on fault (subst (IsLate {X = X} (given + 1)) e late))
-  where
-    on : (fault : GraphFault) → given + 1 ≤ line_of fault → length (ended_lines f.0.read) < line_of fault
-    on e h = let few = f.1 in omega (arith, h, few)
+-- the same behind those that were read
+pub late_more_roads : (nodes said : ℕ) (done : List Road) (line : ℕ) (ps : List Piece) → IsLate line (joined done (roads_in nodes said (length done) line ps))
+late_more_roads nodes said done line ps = late_map line _ (roads_in nodes said (length done) line ps) (late_roads nodes said (length done) line ps)
 
-late_joined : {X : Type 0} (line : ℕ) (done : List X) (x : Result (List X) GraphFault) → IsLate line x → IsLate line (joined done x)
-late_joined line done (Ok x) h = tt
-late_joined line done (Err error) h = h
+pub late_more_places : (nodes : ℕ) (done : List Placed) (line : ℕ) (ps : List Piece) → IsLate line (joined done (places_behind nodes line done ps))
+late_more_places nodes done line ps = late_map line _ (places_behind nodes line done ps) (late_behind nodes line done ps)
+
+-- Where the shelf failed behind so many lines, the lines ahead are refused by none of those before.
+undecided : {X : Type 0} (said : Result X GraphFault) (text : List ℕ) (left : Option (List ℕ)) (given : ℕ) → IsReadBehind text left given → IsLate (given + 1) said → IsUndecided said text left
+undecided {X = X} said text left given read late = (read.1.0, λ fault e. on fault (subst (IsLate {X = X} (given + 1)) e late))
+  where
+    on : (fault : GraphFault) → given + 1 ≤ line_of fault → length (ended_lines read.1.0.read) < line_of fault
+    on e h = let ended : length (ended_lines read.1.0.read) ≡ given = ap length read.1.1 ∙ read.2 in omega (arith, h)
 
 -- no line that is ahead is among those that were read
-pub graph_unread : (given : ℕ) (ps : Option (List Piece)) (start : Option (Result Roads GraphFault)) (text : List ℕ) (left : Option (List ℕ)) → graph_ahead given ps ≡ start → AreFewEnded text left given → WhereTold start (λ said. IsUndecided said text left)
-graph_unread given ps start text left e f = subst (λ (o : Option (Result Roads GraphFault)). WhereTold o (λ said. IsUndecided said text left)) e (on ps)
+pub ahead_unread : {X : Type 0} (says : ℕ → List Piece → Result X GraphFault) → ((line : ℕ) (ps : List Piece) → IsLate line (says line ps))
+    → (given : ℕ) (ps : Option (List Piece)) (start : Option (Result X GraphFault)) (text : List ℕ) (left : Option (List ℕ)) → option_map (says (given + 1)) ps ≡ start → IsReadBehind text left given
+    → WhereTold start (λ said. IsUndecided said text left)
+ahead_unread {X = X} says late given ps start text left e read = subst (λ (o : Option (Result X GraphFault)). WhereTold o (λ said. IsUndecided said text left)) e (on ps)
   where
-    on : (ps : Option (List Piece)) → WhereTold (graph_ahead given ps) (λ said. IsUndecided said text left)
+    on : (ps : Option (List Piece)) → WhereTold (option_map (says (given + 1)) ps) (λ said. IsUndecided said text left)
     on None = tt
-    on (Some ps) = undecided (graph_in (given + 1) ps) text left given f (late_graph (given + 1) ps)
-
-pub roads_unread : (nodes said : ℕ) (done : List Road) (given : ℕ) (ps : Option (List Piece)) (start : Option (Result (List Road) GraphFault)) (text : List ℕ) (left : Option (List ℕ)) → roads_said nodes said done given ps ≡ start → AreFewEnded text left given → WhereTold start (λ answer. IsUndecided answer text left)
-roads_unread nodes said done given ps start text left e f = subst (λ (o : Option (Result (List Road) GraphFault)). WhereTold o (λ answer. IsUndecided answer text left)) e (on ps)
-  where
-    on : (ps : Option (List Piece)) → WhereTold (roads_said nodes said done given ps) (λ answer. IsUndecided answer text left)
-    on None = tt
-    on (Some ps) = let rest = roads_in nodes said (length done) (given + 1) ps in undecided (joined done rest) text left given f (late_joined (given + 1) done rest (late_roads nodes said (length done) (given + 1) ps))
-
-pub header_unread : (nodes given : ℕ) (ps : Option (List Piece)) (start : Option (Result (List Placed) GraphFault)) (text : List ℕ) (left : Option (List ℕ)) → places_ahead nodes given ps ≡ start → AreFewEnded text left given → WhereTold start (λ said. IsUndecided said text left)
-header_unread nodes given ps start text left e f = subst (λ (o : Option (Result (List Placed) GraphFault)). WhereTold o (λ said. IsUndecided said text left)) e (on ps)
-  where
-    on : (ps : Option (List Piece)) → WhereTold (places_ahead nodes given ps) (λ said. IsUndecided said text left)
-    on None = tt
-    on (Some ps) = undecided (places_in nodes (given + 1) ps) text left given f (late_places nodes (given + 1) ps)
-
-pub places_unread : (nodes : ℕ) (done : List Placed) (given : ℕ) (ps : Option (List Piece)) (start : Option (Result (List Placed) GraphFault)) (text : List ℕ) (left : Option (List ℕ)) → places_said nodes done given ps ≡ start → AreFewEnded text left given → WhereTold start (λ said. IsUndecided said text left)
-places_unread nodes done given ps start text left e f = subst (λ (o : Option (Result (List Placed) GraphFault)). WhereTold o (λ said. IsUndecided said text left)) e (on ps)
-  where
-    on : (ps : Option (List Piece)) → WhereTold (places_said nodes done given ps) (λ said. IsUndecided said text left)
-    on None = tt
-    on (Some ps) = let rest = places_behind nodes (given + 1) done ps in undecided (joined done rest) text left given f (late_joined (given + 1) done rest (late_behind nodes (given + 1) done ps))
+    on (Some ps) = undecided (says (given + 1) ps) text left given read (late (given + 1) ps)
 
 -- what roads are refused by is what their graph is refused by
 pub over_unread : (nodes : ℕ) (roads : Option (Result (List Road) GraphFault)) (start : Option (Result Roads GraphFault)) (text : List ℕ) (left : Option (List ℕ)) → start ≡ option_map (over_nodes nodes) roads → WhereTold roads (λ answer. IsUndecided answer text left) → WhereTold start (λ said. IsUndecided said text left)
@@ -171,27 +144,14 @@ over_unread nodes roads start text left e u = subst (λ (o : Option (Result Road
     on None u = tt
     on (Some x) u = (u.0, λ fault e. u.1 fault (fault_of x fault e))
 
--- a reader that has given nothing
-abbrev at_first : Reader
-at_first = record { pending = []; given = 0; room = largest_text; stopped = None }
+-- what is said of all that is ahead of a reader that has given nothing is said of the text
+pub whole_unread : {X : Type 0} (says : ℕ → List Piece → Result X GraphFault) (reader : Reader) (old left : Option (List ℕ)) → reader ≡ record { pending = []; given = 0; room = largest_text; stopped = None; over = false }
+    → ((text : List ℕ) → IsReadFrom text reader (Some text)) → ((text : List ℕ) → IsReadFrom text reader old → WhereTold (option_map (says (reader.given + 1)) (ahead reader old)) (λ said. IsUndecided said text left))
+    → WhereTold old (λ text. IsUndecided (says 1 (pieces largest_text text)) text left)
+whole_unread says reader None left e none unread = tt
+whole_unread says reader (Some text) left e none unread = subst (λ (r : Reader). WhereTold (option_map (says (r.given + 1)) (ahead r (Some text))) (λ said. IsUndecided said text left)) e (unread text (none text))
 
--- what is said of all that is ahead is said of the text
-pub graph_from : (reader : Reader) (old left : Option (List ℕ)) → reader ≡ at_first → ((text : List ℕ) → IsReadFrom text reader old → WhereTold (graph_ahead reader.given (ahead reader old)) (λ said. IsUndecided said text left))
-    → WhereTold old (λ text. IsUndecided (graph_of text) text left)
-graph_from reader old left e u = on old (subst (λ (r : Reader). (text : List ℕ) → IsReadFrom text r old → WhereTold (graph_ahead r.given (ahead r old)) (λ said. IsUndecided said text left)) e u)
-  where
-    on : (old : Option (List ℕ)) → ((text : List ℕ) → IsReadFrom text at_first old → WhereTold (graph_ahead 0 (ahead at_first old)) (λ said. IsUndecided said text left)) → WhereTold old (λ text. IsUndecided (graph_of text) text left)
-    on None u = tt
-    on (Some text) u = u text (refl, refl)
-
-pub places_from : (nodes : ℕ) (reader : Reader) (old left : Option (List ℕ)) → reader ≡ at_first → ((text : List ℕ) → IsReadFrom text reader old → WhereTold (places_ahead nodes reader.given (ahead reader old)) (λ said. IsUndecided said text left))
-    → WhereTold old (λ text. IsUndecided (places_of nodes text) text left)
-places_from nodes reader old left e u = on old (subst (λ (r : Reader). (text : List ℕ) → IsReadFrom text r old → WhereTold (places_ahead nodes r.given (ahead r old)) (λ said. IsUndecided said text left)) e u)
-  where
-    on : (old : Option (List ℕ)) → ((text : List ℕ) → IsReadFrom text at_first old → WhereTold (places_ahead nodes 0 (ahead at_first old)) (λ said. IsUndecided said text left)) → WhereTold old (λ text. IsUndecided (places_of nodes text) text left)
-    on None u = tt
-    on (Some text) u = u text (refl, refl)
-
--- what the places behind the header are refused by is what the whole is refused by
-pub behind_unread : (behind start : Option (Result (List Placed) GraphFault)) (text : List ℕ) (left : Option (List ℕ)) → start ≡ behind → WhereTold behind (λ said. IsUndecided said text left) → WhereTold start (λ said. IsUndecided said text left)
-behind_unread behind start text left e u = subst (λ (o : Option (Result (List Placed) GraphFault)). WhereTold o (λ said. IsUndecided said text left)) (sym e) u
+-- an error that was handed on
+pub handed : {T U : Type 0} (result : Result T GraphFault) (answer : Result U GraphFault) (e : GraphFault) → IsErr result × IsErrAnd result (λ x. x ≡ e) → answer ≡ Err e → result ≡ Err Fault → answer ≡ Err Fault
+handed (Ok t) answer e h a f = cc
+handed (Err x) answer e h a f = let same : x ≡ e = h.1 in cc

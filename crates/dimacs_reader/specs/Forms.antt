@@ -1,6 +1,6 @@
 use Rattle.std.specs.Prelude.{ℕ, ℤ, pos, neg_ℤ, ◌==◌, ◌&&◌, Bool, false, cond, List, [], ◌∷◌, codes}
 use Rattle.std.specs.Str.{bytes_eq}
-use Rattle.ride_base.specs.Fields.{fields_of, is_number, value_of}
+use Rattle.ride_base.specs.Fields.{fields_of, is_number, value_of, begins_comment}
 
 -- The forms of single lines. Numbers are digits, as many as one likes.
 
@@ -14,11 +14,6 @@ pub data GraphLine : Type 0 where
   Arc : (from to weight : ℕ) → GraphLine
   -- none of these
   Formless : GraphLine
-
--- the first byte of a comment, behind blanks, is `c`
-abbrev pub begins_comment : List ℕ → Bool
-begins_comment [] = false
-begins_comment (b ∷ bs) = b == 99
 
 abbrev pub problem_of : List (List ℕ) → GraphLine
 problem_of (sp ∷ nodes ∷ roads ∷ []) = cond (bytes_eq sp (codes "sp") && (is_number nodes && is_number roads)) (Problem (value_of nodes) (value_of roads)) Formless
@@ -41,13 +36,13 @@ graph_line line = graph_line_of (fields_of line)
 -- what a line of places says by itself
 pub data PlaceLine : Type 0 where
   -- a comment, or a line without fields
-  Passed : PlaceLine
+  Skipped : PlaceLine
   -- `p aux sp co N`: so many nodes
   Header : (nodes : ℕ) → PlaceLine
   -- `v ID X Y`: a node and where it lies
   Place : (node : ℕ) (x y : ℤ) → PlaceLine
   -- none of these
-  Shapeless : PlaceLine
+  Formless : PlaceLine
 
 -- digits with a `-` before them, or without one
 abbrev pub is_signed : List ℕ → Bool
@@ -60,19 +55,19 @@ signed_of (b ∷ bs) = cond (b == 45) (neg_ℤ (pos (value_of bs))) (pos (value_
 
 abbrev pub header_of : List (List ℕ) → PlaceLine
 header_of (aux ∷ sp ∷ co ∷ nodes ∷ []) =
-    cond (bytes_eq aux (codes "aux") && (bytes_eq sp (codes "sp") && (bytes_eq co (codes "co") && is_number nodes))) (Header (value_of nodes)) Shapeless
-header_of fields = Shapeless
+    cond (bytes_eq aux (codes "aux") && (bytes_eq sp (codes "sp") && (bytes_eq co (codes "co") && is_number nodes))) (Header (value_of nodes)) Formless
+header_of fields = Formless
 
 abbrev pub place_of : List (List ℕ) → PlaceLine
-place_of (node ∷ x ∷ y ∷ []) = cond (is_number node && (is_signed x && is_signed y)) (Place (value_of node) (signed_of x) (signed_of y)) Shapeless
-place_of fields = Shapeless
+place_of (node ∷ x ∷ y ∷ []) = cond (is_number node && (is_signed x && is_signed y)) (Place (value_of node) (signed_of x) (signed_of y)) Formless
+place_of fields = Formless
 
 abbrev pub place_line_of : List (List ℕ) → PlaceLine
-place_line_of [] = Passed
+place_line_of [] = Skipped
 place_line_of (first ∷ fields) =
-    cond (begins_comment first) Passed
+    cond (begins_comment first) Skipped
     (cond (bytes_eq first (codes "p")) (header_of fields)
-    (cond (bytes_eq first (codes "v")) (place_of fields) Shapeless))
+    (cond (bytes_eq first (codes "v")) (place_of fields) Formless))
 
 abbrev pub place_line : List ℕ → PlaceLine
 place_line line = place_line_of (fields_of line)

@@ -1,5 +1,5 @@
 use Rattle.std.specs.Prelude.{ℕ, ◌+◌, ◌==◌, ◌&&◌, nat_le, cond, List, [], ◌∷◌, Result, Ok, Err}
-use Rattle.ride_base.specs.Pieces.{Piece, Whole, TooLong, TooLarge, pieces}
+use Rattle.ride_base.specs.Pieces.{Piece, Whole, TooLong, TooLarge, pieces, largest_text}
 use Rattle.road_graph.specs.declared.road.Road.{Road}
 use Rattle.road_graph.specs.Roads.{Roads, is_node, most_nodes, most_roads, node}
 use Rattle.dimacs_reader.specs.declared.faults.GraphFault.{GraphFault}
@@ -8,22 +8,23 @@ use Rattle.dimacs_reader.specs.Forms.{GraphLine, Skipped, Problem, Arc, Formless
 
 -- What a text says as a graph: its nodes and its roads in their order, or its first bad line and why it is bad.
 
-abbrev pub largest_text : ℕ
-largest_text = 1073741824
-
 abbrev pub largest_weight : ℕ
 largest_weight = 4294967295
 
--- one road more in front
-abbrev pub onto_roads : Road → Result (List Road) GraphFault → Result (List Road) GraphFault
-onto_roads road (Ok roads) = Ok (road ∷ roads)
-onto_roads road (Err fault) = Err fault
+-- what a value becomes, where there is one
+abbrev pub map_ok : {X Y : Type 0} → (X → Y) → Result X GraphFault → Result Y GraphFault
+map_ok f (Ok x) = Ok (f x)
+map_ok f (Err fault) = Err fault
+
+-- one more in front
+abbrev pub onto : {X : Type 0} → X → Result (List X) GraphFault → Result (List X) GraphFault
+onto x rest = map_ok (λ xs. x ∷ xs) rest
 
 -- a road of this line, among so many nodes, and then the roads of the lines behind it
 abbrev pub road_and : (nodes line from to weight : ℕ) → Result (List Road) GraphFault → Result (List Road) GraphFault
 road_and nodes line from to weight rest =
     cond (is_node nodes (node from) && is_node nodes (node to))
-    (cond (nat_le weight largest_weight) (onto_roads (record { from = node from; to = node to; weight = weight }) rest) (Err (Weight line)))
+    (cond (nat_le weight largest_weight) (onto (record { from = node from; to = node to; weight = weight }) rest) (Err (Weight line)))
     (Err (Node line))
 
 -- what a line of that form says behind the problem line, where so many roads were said and so many were found before it
@@ -41,8 +42,7 @@ roads_in nodes said found line (TooLong ∷ more) = Err (Limit line)
 roads_in nodes said found line (TooLarge ∷ more) = Err (Limit line)
 
 abbrev pub over_nodes : ℕ → Result (List Road) GraphFault → Result Roads GraphFault
-over_nodes nodes (Ok roads) = Ok (record { nodes = nodes; roads = roads })
-over_nodes nodes (Err fault) = Err fault
+over_nodes nodes rest = map_ok (λ roads. record { nodes = nodes; roads = roads }) rest
 
 -- what a line of that form says where no problem line came before it
 abbrev pub first_line : (line : ℕ) → GraphLine → (skipped : Result Roads GraphFault) → (ℕ → ℕ → Result (List Road) GraphFault) → Result Roads GraphFault

@@ -1,11 +1,11 @@
 use Rattle.std.specs.Prelude.{◌≡◌, ℕ, ℤ, ◌+◌, ◌-◌, ◌==◌, ◌&&◌, nat_le, nat_abs, not, Bool, cond, List, [], ◌∷◌, ◌++◌, length, Some, slice_get, Result, Ok, Err}
 use Rattle.std.specs.List.{list_any}
-use Rattle.ride_base.specs.Pieces.{Piece, Whole, TooLong, TooLarge, pieces}
+use Rattle.ride_base.specs.Pieces.{Piece, Whole, TooLong, TooLarge, pieces, largest_text}
 use Rattle.road_graph.specs.Roads.{is_node, most_nodes, node}
 use Rattle.dimacs_reader.specs.declared.faults.GraphFault.{GraphFault}
 use Rattle.dimacs_reader.specs.declared.faults.GraphFault.TheVariants.{Form, Count, Node, Weight, Limit}
-use Rattle.dimacs_reader.specs.Forms.{PlaceLine, Passed, Header, Place, Shapeless, place_line}
-use Rattle.dimacs_reader.specs.Graphs.{largest_text}
+use Rattle.dimacs_reader.specs.Forms.{PlaceLine, Skipped, Header, Place, Formless, place_line}
+use Rattle.dimacs_reader.specs.Graphs.{onto}
 
 -- What a text says as places of so many nodes: where each node lies, or its first bad line and why it is bad.
 
@@ -25,25 +25,21 @@ is_coordinate z = nat_le (nat_abs z) largest_coordinate
 abbrev pub stood_before : List Placed → ℕ → Bool
 stood_before before n = list_any (λ (p : Placed). p.node == n) before
 
-abbrev pub onto_places : Placed → Result (List Placed) GraphFault → Result (List Placed) GraphFault
-onto_places place (Ok places) = Ok (place ∷ places)
-onto_places place (Err fault) = Err fault
-
 -- a place of this line, behind those before it, and then the places of the lines behind it
 abbrev pub place_and : (nodes line : ℕ) → List Placed → Placed → Result (List Placed) GraphFault → Result (List Placed) GraphFault
 place_and nodes line before place rest =
     cond (is_node nodes (node place.node) && not (stood_before before place.node))
-    (cond (is_coordinate place.x && is_coordinate place.y) (onto_places place rest) (Err (Weight line)))
+    (cond (is_coordinate place.x && is_coordinate place.y) (onto place rest) (Err (Weight line)))
     (Err (Node line))
 
 -- what a line of that form says behind the header, where these places were found before it
-abbrev pub later_line : (nodes line : ℕ) → List Placed → PlaceLine → (passed : Result (List Placed) GraphFault) → (Placed → Result (List Placed) GraphFault) → Result (List Placed) GraphFault
-later_line nodes line before Passed passed another = passed
-later_line nodes line before (Header n) passed another = Err (Form line)
-later_line nodes line before (Place n x y) passed another =
+abbrev pub later_line : (nodes line : ℕ) → List Placed → PlaceLine → (skipped : Result (List Placed) GraphFault) → (Placed → Result (List Placed) GraphFault) → Result (List Placed) GraphFault
+later_line nodes line before Skipped skipped another = skipped
+later_line nodes line before (Header n) skipped another = Err (Form line)
+later_line nodes line before (Place n x y) skipped another =
     cond (length before == nodes) (Err (Count line nodes (nodes + 1)))
     (place_and nodes line before (record { node = n; x = x; y = y }) (another (record { node = n; x = x; y = y })))
-later_line nodes line before Shapeless passed another = Err (Form line)
+later_line nodes line before Formless skipped another = Err (Form line)
 
 -- the places of the lines behind the header, from line number `line` on
 abbrev pub places_behind : (nodes line : ℕ) → List Placed → List Piece → Result (List Placed) GraphFault
@@ -54,11 +50,11 @@ places_behind nodes line before (TooLong ∷ more) = Err (Limit line)
 places_behind nodes line before (TooLarge ∷ more) = Err (Limit line)
 
 -- what a line of that form says where no header came before it
-abbrev pub opening_line : (nodes line : ℕ) → PlaceLine → (passed behind : Result (List Placed) GraphFault) → Result (List Placed) GraphFault
-opening_line nodes line Passed passed behind = passed
-opening_line nodes line (Header n) passed behind = cond (nat_le n most_nodes) (cond (n == nodes) behind (Err (Count line n nodes))) (Err (Limit line))
-opening_line nodes line (Place n x y) passed behind = Err (Form line)
-opening_line nodes line Shapeless passed behind = Err (Form line)
+abbrev pub opening_line : (nodes line : ℕ) → PlaceLine → (skipped behind : Result (List Placed) GraphFault) → Result (List Placed) GraphFault
+opening_line nodes line Skipped skipped behind = skipped
+opening_line nodes line (Header n) skipped behind = cond (nat_le n most_nodes) (cond (n == nodes) behind (Err (Count line n nodes))) (Err (Limit line))
+opening_line nodes line (Place n x y) skipped behind = Err (Form line)
+opening_line nodes line Formless skipped behind = Err (Form line)
 
 -- the places of the lines of a text, from line number `line` on
 abbrev pub places_in : (nodes line : ℕ) → List Piece → Result (List Placed) GraphFault

@@ -1,10 +1,9 @@
-use Rattle.std.specs.Prelude.{◌≡◌, ℕ, suc, zero, ◌<◌, ◌≤◌, List, ◌∷◌, ◌++◌, length, Option, Some, None, Result, Err}
-use Rattle.ride_base.specs.Pieces.{Whole, pieces, after_line, ended_lines}
-use Rattle.ride_base.specs.Prefixes.{IsReadTo}
+use Rattle.std.specs.Prelude.{◌≡◌, ℕ, ◌<◌, false, List, length, Option, Result, Err}
+use Rattle.ride_base.specs.Pieces.{ended_lines, largest_text}
+use Rattle.ride_base.specs.Prefixes.{AreGiven, IsReadTo, IsReadWithLines}
 use Rattle.ride_base.specs.Reader.{Reader}
 use Rattle.dimacs_reader.specs.declared.faults.GraphFault.{GraphFault}
 use Rattle.dimacs_reader.specs.declared.faults.GraphFault.TheVariants.{Fault, Form, Count, Node, Weight, Limit, NoMemory}
-use Rattle.dimacs_reader.specs.Graphs.{largest_text}
 
 -- a fault by which the text itself is refused
 abbrev pub IsRefusal : GraphFault → Type 0
@@ -26,21 +25,14 @@ line_of (Weight line) = line
 line_of (Limit line) = line
 line_of NoMemory = 0
 
--- Where the shelf failed, no bad line was among those that were read whole.
+-- Where the shelf failed, the line end of no bad line was read, nor a byte past the limit of the text.
 abbrev pub IsUndecided : {X : Type 0} → Result X GraphFault → List ℕ → Option (List ℕ) → Type 0
 IsUndecided said text left = (r : IsReadTo largest_text text left) × ((fault : GraphFault) → said ≡ Err fault → length (ended_lines r.read) < line_of fault)
 
--- at most so many lines are ended among what was read
-abbrev pub AreFewEnded : List ℕ → Option (List ℕ) → ℕ → Type 0
-AreFewEnded text left given = (r : IsReadTo largest_text text left) × (length (ended_lines r.read) ≤ given)
-
--- So many lines of a text were given one after another, and the rest stands behind them, which may have so many bytes.
-abbrev pub AreGiven : ℕ → List ℕ → (room : ℕ) → (rest : List ℕ) → Type 0
-AreGiven zero text room rest = (room ≡ largest_text) × (rest ≡ text)
-AreGiven (suc given) text room rest =
-    (before : List ℕ) × (bytes : List ℕ) × (room' : ℕ) × AreGiven given text room' before × (pieces room' before ≡ Whole bytes ∷ pieces room rest) × (rest ≡ after_line before)
-
--- what a reader gave of a text, and has not given
+-- a reader that isn't at the end of its text gave as many lines of it as it counted, and no others
 abbrev pub IsReadFrom : List ℕ → Reader → Option (List ℕ) → Type 0
-IsReadFrom text reader None = ⊥
-IsReadFrom text reader (Some left) = AreGiven reader.given text reader.room (reader.pending ++ left)
+IsReadFrom text reader left = reader.over ≡ false → (lines : List (List ℕ)) × AreGiven largest_text text lines reader left × (length lines ≡ reader.given)
+
+-- the shelf failed where so many lines are ended among what was read
+abbrev pub IsReadBehind : List ℕ → Option (List ℕ) → (given : ℕ) → Type 0
+IsReadBehind text left given = (lines : List (List ℕ)) × IsReadWithLines largest_text text lines left × (length lines ≡ given)

@@ -1,9 +1,9 @@
 ghost use Rattle.std.specs.Prelude.{◌≡◌, ◌∷◌, [], length, IfNone, IfSome, cond, pos, neg_ℤ};
 ghost use Rattle.ride_base.specs.Fields.{fields_of};
 ghost use Rattle.dimacs_reader.specs.Forms.{graph_line as graph_line_in, problem_of, arc_of, place_line as place_line_in, header_of, place_of};
-ghost use Rattle.dimacs_reader.specs.Reading.{read_line, read_place_line, read_coordinate, coordinate_of};
+ghost use Rattle.dimacs_reader.specs.Reading.{read_graph_line, read_place_line, read_coordinate, coordinate_of};
 
-use ride_base::{capped_number, next_field};
+use ride_base::{begins_comment, capped_number, next_field};
 
 /// The largest size of a coordinate.
 const LARGEST_COORDINATE: u64 = 2_147_483_647;
@@ -25,7 +25,7 @@ pub enum GraphLine {
 #[derive(Clone, Copy, Debug)]
 pub enum PlaceLine {
     /// A comment, or a line without fields.
-    Passed,
+    Skipped,
     /// `p aux sp co N`: so many nodes.
     Header {
         nodes: u64,
@@ -37,7 +37,7 @@ pub enum PlaceLine {
         y: Coordinate,
     },
     /// None of these.
-    Shapeless,
+    Formless,
 }
 
 /// A number with an optional sign.
@@ -50,12 +50,12 @@ pub enum Coordinate {
 
 /// What a line of a graph says.
 pub fn graph_line(line: &[u8]) -> GraphLine
-    ensures { result ≡ read_line (graph_line_in line.now) }
+    ensures { result ≡ read_graph_line (graph_line_in line.now) }
 {
     let Some((first, rest)) = next_field(line) else {
         return GraphLine::Skipped;
     };
-    if first[0] == b'c' {
+    if begins_comment(first) {
         GraphLine::Skipped
     } else if first == b"p".as_slice() {
         problem(rest)
@@ -68,7 +68,7 @@ pub fn graph_line(line: &[u8]) -> GraphLine
 
 /// What stands behind `p`.
 fn problem(rest: &[u8]) -> GraphLine
-    ensures { result ≡ read_line (problem_of (fields_of rest.now)) }
+    ensures { result ≡ read_graph_line (problem_of (fields_of rest.now)) }
 {
     let Some((sp, nodes, roads)) = three_fields(rest) else {
         return GraphLine::Formless;
@@ -84,7 +84,7 @@ fn problem(rest: &[u8]) -> GraphLine
 
 /// What stands behind `a`.
 fn arc(rest: &[u8]) -> GraphLine
-    ensures { result ≡ read_line (arc_of (fields_of rest.now)) }
+    ensures { result ≡ read_graph_line (arc_of (fields_of rest.now)) }
 {
     let Some((from, to, weight)) = three_fields(rest) else {
         return GraphLine::Formless;
@@ -104,16 +104,16 @@ pub fn place_line(line: &[u8]) -> PlaceLine
     ensures { result ≡ read_place_line (place_line_in line.now) }
 {
     let Some((first, rest)) = next_field(line) else {
-        return PlaceLine::Passed;
+        return PlaceLine::Skipped;
     };
-    if first[0] == b'c' {
-        PlaceLine::Passed
+    if begins_comment(first) {
+        PlaceLine::Skipped
     } else if first == b"p".as_slice() {
         header(rest)
     } else if first == b"v".as_slice() {
         place(rest)
     } else {
-        PlaceLine::Shapeless
+        PlaceLine::Formless
     }
 }
 
@@ -122,17 +122,17 @@ fn header(rest: &[u8]) -> PlaceLine
     ensures { result ≡ read_place_line (header_of (fields_of rest.now)) }
 {
     let Some((aux, rest)) = next_field(rest) else {
-        return PlaceLine::Shapeless;
+        return PlaceLine::Formless;
     };
     let Some((sp, co, nodes)) = three_fields(rest) else {
-        return PlaceLine::Shapeless;
+        return PlaceLine::Formless;
     };
     if aux != b"aux".as_slice() || sp != b"sp".as_slice() || co != b"co".as_slice() {
-        return PlaceLine::Shapeless;
+        return PlaceLine::Formless;
     }
     match capped_number(nodes) {
         Some(nodes) => PlaceLine::Header { nodes },
-        None => PlaceLine::Shapeless,
+        None => PlaceLine::Formless,
     }
 }
 
@@ -141,11 +141,11 @@ fn place(rest: &[u8]) -> PlaceLine
     ensures { result ≡ read_place_line (place_of (fields_of rest.now)) }
 {
     let Some((node, x, y)) = three_fields(rest) else {
-        return PlaceLine::Shapeless;
+        return PlaceLine::Formless;
     };
     let (Some(node), Some(x), Some(y)) = (capped_number(node), coordinate_in(x), coordinate_in(y))
     else {
-        return PlaceLine::Shapeless;
+        return PlaceLine::Formless;
     };
     PlaceLine::Place { node, x, y }
 }

@@ -6,8 +6,8 @@ ghost use Rattle.road_graph.specs.Faults.{fault_in};
 ghost use Rattle.road_graph.specs.Graphs.{IsGraph};
 ghost use Rattle.road_graph.specs.Roads.{Roads, is_node, is_within, node as node_of, most_nodes, most_roads};
 ghost use Rattle.dimacs_reader.specs.Forms.{graph_line as graph_line_in};
-ghost use Rattle.dimacs_reader.specs.Graphs.{graph_of, over_nodes, arc_line, road_and, first_line};
-ghost use Rattle.dimacs_reader.specs.Reading.{graph_ahead, roads_ahead, graph_with, roads_with, road_with};
+ghost use Rattle.dimacs_reader.specs.Graphs.{graph_of, over_nodes, onto, arc_line, road_and, first_line};
+ghost use Rattle.dimacs_reader.specs.Reading.{graph_ahead, roads_ahead, by_answer, by_value};
 ghost use Rattle.dimacs_reader.specs.Refusals.{IsRefusal, IsUndecided, IsReadFrom};
 
 use crate::faults::GraphFault;
@@ -34,7 +34,9 @@ struct Said {
 }
 
 /// Reads the graph of the text that is begun: `p sp N M`, and then M lines `a U V W`. Comments and blank lines may stand anywhere.
-/// The first line that is bad is told. The roads keep the order of the text.
+/// The first line that is bad is told. The roads keep the order of the text. A graph has at most 2,097,152 nodes and 8,388,608 roads,
+/// each of a weight of at most 4,294,967,295. A line may have 65,536 bytes before its end, and the text 2^30. After an error the text
+/// stays begun, and the shelf stands behind what was read of it, which may be more than the line that is told.
 pub fn read_graph<S: Shelf>(alloc: Global, shelf: &mut S) -> Result<Graph, GraphFault>
     requires { S.IsBegun shelf.old }
     ensures graph { IfOk result (λ g. WhereTold (S.left shelf.old) (λ text. graph_of text ≡ Ok g)) }
@@ -46,8 +48,9 @@ pub fn read_graph<S: Shelf>(alloc: Global, shelf: &mut S) -> Result<Graph, Graph
     ensures shelf { OnlyRead S.IsBegun S.held S.names S.IsSure S.faults shelf.old shelf.new }
 {
     let mut lines = CountedLines::new(alloc);
-    let said = read_problem(alloc, &mut lines, shelf)?;
-    let roads = read_roads(alloc, &mut lines, shelf, said)?;
+    let mut line = Line::new(alloc);
+    let said = read_problem(&mut lines, shelf, &mut line)?;
+    let roads = read_roads(alloc, &mut lines, shelf, &mut line, said)?;
     match Graph::build(alloc, said.nodes, roads.as_slice()) {
         Ok(graph) => Ok(graph),
         Err(BuildFault::NoMemory) => Err(GraphFault::NoMemory),
@@ -55,11 +58,11 @@ pub fn read_graph<S: Shelf>(alloc: Global, shelf: &mut S) -> Result<Graph, Graph
     }
 }
 
-/// Reads as far as the problem line.
+/// Reads as far as the problem line, each line into `line`.
 fn read_problem<S: Shelf>(
-    alloc: Global,
     lines: &mut CountedLines,
     shelf: &mut S,
+    line: &mut Line,
 ) -> Result<Said, GraphFault>
     requires begun { S.IsBegun shelf.old }
     requires unstopped { lines.old.stopped ≡ None }
@@ -74,8 +77,8 @@ fn read_problem<S: Shelf>(
     ensures surely { S.IsSure shelf.old → result ≡ Err GraphFault.Fault → ⊥ }
     ensures shelf { OnlyRead S.IsBegun S.held S.names S.IsSure S.faults shelf.old shelf.new }
 {
-    while let Some(line) = lines.next(alloc, shelf)? {
-        if let Some(said) = problem_of(&line)? {
+    while lines.read_line(shelf, line)? {
+        if let Some(said) = problem_of(line)? {
             return Ok(said);
         }
     }
@@ -86,7 +89,7 @@ fn read_problem<S: Shelf>(
 
 /// What a line says where no problem line came before it. None is of a line that is skipped.
 fn problem_of(line: &Line) -> Result<Option<Said>, GraphFault>
-    ensures says { (skipped : Result Roads GraphFault) (behind : ℕ → ℕ → Result (List Road) GraphFault) → first_line line.now.number (graph_line_in line.now.bytes) skipped behind ≡ graph_with result skipped behind }
+    ensures says { (skipped : Result Roads GraphFault) (behind : ℕ → ℕ → Result (List Road) GraphFault) → first_line line.now.number (graph_line_in line.now.bytes) skipped behind ≡ by_answer result skipped (λ said. over_nodes said.nodes (behind said.nodes said.roads)) }
     ensures few_nodes { IfOk result (λ o. IfSome o (λ said. said.nodes ≤ most_nodes)) }
     ensures few_roads { IfOk result (λ o. IfSome o (λ said. said.roads ≤ most_roads)) }
     ensures refusal { IfErr result IsRefusal }
@@ -106,11 +109,12 @@ fn problem_of(line: &Line) -> Result<Option<Said>, GraphFault>
     }
 }
 
-/// Reads so many roads, to the end of the text.
+/// Reads so many roads, to the end of the text, each line into `line`.
 fn read_roads<S: Shelf>(
     alloc: Global,
     lines: &mut CountedLines,
     shelf: &mut S,
+    line: &mut Line,
     said: Said,
 ) -> Result<Items<Road>, GraphFault>
     requires begun { S.IsBegun shelf.old }
@@ -126,8 +130,8 @@ fn read_roads<S: Shelf>(
     ensures shelf { OnlyRead S.IsBegun S.held S.names S.IsSure S.faults shelf.old shelf.new }
 {
     let mut roads = Items::new(alloc);
-    while let Some(line) = lines.next(alloc, shelf)? {
-        let road = road_of(&line, said, roads.len())?;
+    while lines.read_line(shelf, line)? {
+        let road = road_of(line, said, roads.len())?;
         push_some(&mut roads, road)?;
     }
     if roads.len() < said.roads as usize {
@@ -154,7 +158,7 @@ fn push_some(roads: &mut Items<Road>, road: Option<Road>) -> Result<(), NoMemory
 /// What a line says behind the problem line, where so many roads were found before it. None is of a line that is skipped.
 fn road_of(line: &Line, said: Said, found: usize) -> Result<Option<Road>, GraphFault>
     requires few { found ≤ said.roads }
-    ensures says { (skipped another : Result (List Road) GraphFault) → arc_line said.nodes said.roads found line.now.number (graph_line_in line.now.bytes) skipped another ≡ roads_with result skipped another }
+    ensures says { (skipped another : Result (List Road) GraphFault) → arc_line said.nodes said.roads found line.now.number (graph_line_in line.now.bytes) skipped another ≡ by_answer result skipped (λ road. onto road another) }
     ensures within { IfOk result (λ o. IfSome o (λ road. is_within said.nodes road ≡ true)) }
     ensures fewer { IfOk result (λ o. IfSome o (λ _. found < said.roads)) }
     ensures refusal { IfErr result IsRefusal }
@@ -179,7 +183,7 @@ fn road_of(line: &Line, said: Said, found: usize) -> Result<Option<Road>, GraphF
 
 /// The road of a line, among so many nodes.
 fn road(line: u64, nodes: u32, from: u64, to: u64, weight: u64) -> Result<Road, GraphFault>
-    ensures says { (another : Result (List Road) GraphFault) → road_and nodes line from to weight another ≡ road_with result another }
+    ensures says { (another : Result (List Road) GraphFault) → road_and nodes line from to weight another ≡ by_value result (λ road. onto road another) }
     ensures within { IfOk result (λ road. is_within nodes road ≡ true) }
     ensures refusal { IfErr result IsRefusal }
 {

@@ -1,10 +1,11 @@
-ghost use Rattle.std.specs.Prelude.{◌≡◌, ℕ, ℤ, ◌<◌, ◌≤◌, ◌+◌, ◌-◌, ◌^◌, [], true, false, IfOk, IfErr, IfSome, IfNone, IsOk, Err, None, List, ◌++◌, Result, Ok, OnOk, length, get_or, set};
+ghost use Rattle.std.specs.Prelude.{◌≡◌, ℕ, ℤ, ◌<◌, ◌≤◌, ◌+◌, ◌-◌, ◌^◌, [], true, false, IfOk, IfErr, IfSome, IfNone, IsOk, Err, None, List, ◌++◌, Result, Ok, OnOk, length, get_or, set, cond};
 ghost use Rattle.std.specs.Option.{option_map, option_to_list};
+ghost use Rattle.ride_base.specs.Fields.{capped};
 ghost use Rattle.ride_base.specs.Outside.{Rose, OnlyRead};
 ghost use Rattle.ride_base.specs.Told.{WhereTold, ahead};
 ghost use Rattle.dimacs_reader.specs.Forms.{place_line as place_line_in};
 ghost use Rattle.dimacs_reader.specs.Places.{Placed, AreCoordinates, places_of, opening_line, later_line, place_and};
-ghost use Rattle.dimacs_reader.specs.Reading.{places_ahead, placed_ahead, header_with, places_with, place_with, AreKept, placed_by, cut, read_coordinate};
+ghost use Rattle.dimacs_reader.specs.Reading.{places_ahead, placed_ahead, by_answer, by_value, placed_and, AreKept, placed_by, read_coordinate};
 ghost use Rattle.dimacs_reader.specs.Refusals.{IsRefusal, IsUndecided, IsReadFrom};
 
 use crate::faults::GraphFault;
@@ -33,7 +34,9 @@ struct Coordinates {
 }
 
 /// Reads the places of so many nodes from the text that is begun: `p aux sp co N`, where N is that number, and then one line
-/// `v ID X Y` for each node, in any order. Comments and blank lines may stand anywhere. The first line that is bad is told.
+/// `v ID X Y` for each node, in any order. Comments and blank lines may stand anywhere. The first line that is bad is told. The answer
+/// has the place of node k + 1 at index k, X before Y, each at most 2,147,483,647 in size. After an error the text stays begun, and the
+/// shelf stands behind what was read of it, which may be more than the line that is told.
 pub fn read_places<S: Shelf>(
     alloc: Global,
     shelf: &mut S,
@@ -49,15 +52,16 @@ pub fn read_places<S: Shelf>(
     ensures shelf { OnlyRead S.IsBegun S.held S.names S.IsSure S.faults shelf.old shelf.new }
 {
     let mut lines = CountedLines::new(alloc);
-    read_header(alloc, &mut lines, shelf, nodes)?;
-    read_each(alloc, &mut lines, shelf, nodes)
+    let mut line = Line::new(alloc);
+    read_header(&mut lines, shelf, &mut line, nodes)?;
+    read_each(alloc, &mut lines, shelf, &mut line, nodes)
 }
 
-/// Reads as far as the header, which must say so many nodes.
+/// Reads as far as the header, which must say so many nodes, each line into `line`.
 fn read_header<S: Shelf>(
-    alloc: Global,
     lines: &mut CountedLines,
     shelf: &mut S,
+    line: &mut Line,
     nodes: u32,
 ) -> Result<(), GraphFault>
     requires begun { S.IsBegun shelf.old }
@@ -71,8 +75,8 @@ fn read_header<S: Shelf>(
     ensures surely { S.IsSure shelf.old → result ≡ Err GraphFault.Fault → ⊥ }
     ensures shelf { OnlyRead S.IsBegun S.held S.names S.IsSure S.faults shelf.old shelf.new }
 {
-    while let Some(line) = lines.next(alloc, shelf)? {
-        if is_header(&line, nodes)? {
+    while lines.read_line(shelf, line)? {
+        if is_header(line, nodes)? {
             return Ok(());
         }
     }
@@ -83,11 +87,11 @@ fn read_header<S: Shelf>(
 
 /// Whether a line is the header, where none came before it.
 fn is_header(line: &Line, nodes: u32) -> Result<bool, GraphFault>
-    ensures says { (passed behind : Result (List Placed) GraphFault) → opening_line nodes line.now.number (place_line_in line.now.bytes) passed behind ≡ header_with result passed behind }
+    ensures says { (skipped behind : Result (List Placed) GraphFault) → opening_line nodes line.now.number (place_line_in line.now.bytes) skipped behind ≡ by_value result (λ header. cond header behind skipped) }
     ensures refusal { IfErr result IsRefusal }
 {
     match place_line(line.bytes.as_slice()) {
-        PlaceLine::Passed => Ok(false),
+        PlaceLine::Skipped => Ok(false),
         PlaceLine::Header { nodes: said } => {
             if said > MOST_NODES {
                 return Err(GraphFault::Limit { line: line.number });
@@ -101,17 +105,18 @@ fn is_header(line: &Line, nodes: u32) -> Result<bool, GraphFault>
             }
             Ok(true)
         }
-        PlaceLine::Place { .. } | PlaceLine::Shapeless => {
+        PlaceLine::Place { .. } | PlaceLine::Formless => {
             Err(GraphFault::Form { line: line.number })
         }
     }
 }
 
-/// Reads the place of each node, to the end of the text.
+/// Reads the place of each node, to the end of the text, each line into `line`.
 fn read_each<S: Shelf>(
     alloc: Global,
     lines: &mut CountedLines,
     shelf: &mut S,
+    line: &mut Line,
     nodes: u32,
 ) -> Result<Vec<(i64, i64)>, GraphFault>
     requires begun { S.IsBegun shelf.old }
@@ -125,8 +130,8 @@ fn read_each<S: Shelf>(
     ensures shelf { OnlyRead S.IsBegun S.held S.names S.IsSure S.faults shelf.old shelf.new }
 {
     let mut coordinates = Coordinates::unplaced(alloc, nodes)?;
-    while let Some(line) = lines.next(alloc, shelf)? {
-        let placing = coordinates.placing_of(&line, nodes)?;
+    while lines.read_line(shelf, line)? {
+        let placing = coordinates.placing_of(line, nodes)?;
         coordinates.put_some(placing);
     }
     if coordinates.count < nodes {
@@ -155,18 +160,18 @@ impl Coordinates {
         })
     }
 
-    /// What a line says behind the header. None is of a line that is passed.
+    /// What a line says behind the header. None is of a line that is skipped.
     fn placing_of(&self, line: &Line, nodes: u32) -> Result<Option<Placing>, GraphFault>
         requires { self.now.count ≤ nodes }
-        ensures says { (before : List Placed) → AreKept nodes before self.now.held.items self.now.placed.items self.now.count → (passed : Result (List Placed) GraphFault) (another : Placed → Result (List Placed) GraphFault)
-            → later_line nodes line.now.number before (place_line_in line.now.bytes) passed another ≡ places_with result passed another }
+        ensures says { (before : List Placed) → AreKept nodes before self.now.held.items self.now.placed.items self.now.count → (skipped : Result (List Placed) GraphFault) (another : Placed → Result (List Placed) GraphFault)
+            → later_line nodes line.now.number before (place_line_in line.now.bytes) skipped another ≡ by_answer result skipped (placed_and another) }
         ensures within { IfOk result (λ o. IfSome o (λ placing. placing.index < length self.now.placed.items)) }
         ensures free { IfOk result (λ o. IfSome o (λ placing. get_or self.now.placed.items placing.index false ≡ false)) }
         ensures fewer { IfOk result (λ o. IfSome o (λ _. self.now.count < nodes)) }
         ensures refusal { IfErr result IsRefusal }
     {
         match place_line(line.bytes.as_slice()) {
-            PlaceLine::Passed => Ok(None),
+            PlaceLine::Skipped => Ok(None),
             PlaceLine::Place { node, x, y } => {
                 if self.count == nodes {
                     return Err(GraphFault::Count {
@@ -177,7 +182,7 @@ impl Coordinates {
                 }
                 Ok(Some(self.placing(line.number, node, x, y)?))
             }
-            PlaceLine::Header { .. } | PlaceLine::Shapeless => {
+            PlaceLine::Header { .. } | PlaceLine::Formless => {
                 Err(GraphFault::Form { line: line.number })
             }
         }
@@ -191,8 +196,8 @@ impl Coordinates {
         x: Coordinate,
         y: Coordinate,
     ) -> Result<Placing, GraphFault>
-        ensures says { (nodes : ℕ) (before : List Placed) → nodes < 2 ^ 32 → AreKept nodes before self.now.held.items self.now.placed.items self.now.count → (number : ℕ) (east north : ℤ) → node ≡ cut number → x ≡ read_coordinate east → y ≡ read_coordinate north
-            → (another : Placed → Result (List Placed) GraphFault) → place_and nodes line before (record { node = number; x = east; y = north }) (another (record { node = number; x = east; y = north })) ≡ place_with result another }
+        ensures says { (nodes : ℕ) (before : List Placed) → nodes < 2 ^ 32 → AreKept nodes before self.now.held.items self.now.placed.items self.now.count → (number : ℕ) (east north : ℤ) → node ≡ capped number → x ≡ read_coordinate east → y ≡ read_coordinate north
+            → (another : Placed → Result (List Placed) GraphFault) → place_and nodes line before (record { node = number; x = east; y = north }) (another (record { node = number; x = east; y = north })) ≡ by_value result (placed_and another) }
         ensures within { IfOk result (λ placing. placing.index < length self.now.placed.items) }
         ensures free { IfOk result (λ placing. get_or self.now.placed.items placing.index false ≡ false) }
         ensures refusal { IfErr result IsRefusal }

@@ -50,13 +50,6 @@ fn answer<R: Threads + Sync + Files + Print>(rt: &R, alloc: Global, words: &[Str
 fn tell(rt: &HostRuntime, status: Status) -> io::Result<()> {
     match status {
         Status::Done => Ok(()),
-        Status::NotYet => eprintln!(rt; "not yet"),
-        Status::Usage => eprintln!(rt; "usage"),
-        Status::GraphText { line } => eprintln!(rt; "graph line {line}"),
-        Status::FleetText { row } => eprintln!(rt; "fleet row {row}"),
-        Status::StreamText { line } => eprintln!(rt; "stream line {line}"),
-        Status::ReadFault => eprintln!(rt; "read fault"),
-        Status::WriteFault => eprintln!(rt; "write fault"),
-        Status::NoMemory => eprintln!(rt; "no memory"),
+        _ => eprintln!(rt; "{status}"),
     }
 }

@@ -1,14 +1,13 @@
-use Rattle.std.proofs.Common.{◌≡◌, ℕ, suc, ◌+◌, ◌≤◌, List, [], ◌∷◌, ◌++◌, Bool, true, false, cond, Option, Some, None, Result, Ok, Err, refl, sym, ap, ◌∙◌, arith, append_assoc, append-nil, map, length, position}
-use Rattle.std.specs.Str.Lines.{strip_carriage_return}
-use Rattle.ride_base.specs.Pieces.{Piece, Whole, pieces, after_line, is_line_end, is_ended, ended_lines, longest_line}
-use Rattle.ride_base.specs.Prefixes.{IsReadTo}
-use Rattle.ride_base.proofs.Prefixes.{IsPrefixOf, prefix_more, read_to, lines_read as ended_read, length_map, lines_of_more}
+use Rattle.std.proofs.Common.{◌≡◌, ℕ, suc, ◌+◌, List, [], ◌∷◌, ◌++◌, Bool, true, false, cond, Option, Some, None, Result, Ok, Err, refl, sym, ap, ◌∙◌, arith, append_assoc, append-nil, map, length}
+use Rattle.ride_base.specs.Buffers.{with_front}
+use Rattle.ride_base.specs.Pieces.{Piece, Whole, pieces, ended_lines, largest_text}
+use Rattle.ride_base.specs.Prefixes.{IsReadTo, IsReadWithLines, AreBefore, AreFirstLines}
 use Rattle.stop_schedule.specs.declared.request.Request.{Request}
 use Rattle.input_tables.specs.declared.faults.StreamFault.{StreamFault}
 use Rattle.input_tables.specs.declared.lines.StreamLine.{StreamLine}
 use Rattle.input_tables.specs.declared.lines.StreamLine.TheVariants.{Ride, Move, Nothing}
 use Rattle.input_tables.specs.Streams.{stream_line_of}
-use Rattle.dispatch_top.specs.Streams.{Rides, StreamEnd, AtEnd, AtLater, AtBad, rides_in, rides_of, from_line, onto_rides, no_more, is_accepted, largest_text}
+use Rattle.dispatch_top.specs.Streams.{Rides, StreamEnd, AtEnd, AtLater, AtBad, rides_in, rides_of, from_line, onto_rides, no_more, is_accepted}
 
 -- Prefixes of a stream: lines that were read whole and go to rides, and what is left behind them.
 
@@ -61,34 +60,59 @@ rides_behind nodes before rides n (line ∷ lines) more h = step (λ b rs e. rid
 
 -- What was read of a stream, whose lines go to these rides.
 pub record IsFrontOf (nodes : ℕ) (rides : List Request) (text rest : List ℕ) (number room : ℕ) : Type 0 where
-  pub prefix : IsPrefixOf largest_text text rest number room
-  pub said : rides_in nodes [] 1 (map Whole (map strip_carriage_return prefix.parts)) ≡ record { rides = rides; ends = AtEnd }
+  pub lines : List (List ℕ)
+  pub given : AreFirstLines largest_text text lines room rest
+  pub count : length lines ≡ number
+  pub said : rides_in nodes [] 1 (map Whole lines) ≡ record { rides = rides; ends = AtEnd }
+
+-- what was read of a stream that is told, and what is unread
+abbrev pub IsPart : ℕ → List Request → List ℕ → Option (List ℕ) → (number room : ℕ) → Type 0
+IsPart nodes rides text None number room = ⊥
+IsPart nodes rides text (Some rest) number room = IsFrontOf nodes rides text rest number room
 
 -- nothing was read
 pub nothing_read : (nodes : ℕ) (text : List ℕ) → IsFrontOf nodes [] text text 0 largest_text
-nothing_read nodes text = record { prefix = record { parts = []; unended_parts = tt; is_text = refl; count = refl; in_pieces = refl }; said = refl }
+nothing_read nodes text = record {
+  lines = [];
+  given = record { parts = []; unended_parts = tt; are_lines = refl; is_text = refl; spent = omega arith; first = refl };
+  count = refl;
+  said = refl;
+}
 
 -- the rides of the text are those of the lines that were read, and of the pieces that are left
 pub rides_left : (nodes : ℕ) (rides : List Request) (text rest : List ℕ) (number room : ℕ) → IsFrontOf nodes rides text rest number room
     → rides_of nodes text ≡ onto rides (rides_in nodes rides (number + 1) (pieces room rest))
 rides_left nodes rides text rest number room f =
-    ap (rides_in nodes [] 1) f.prefix.in_pieces ∙ rides_behind nodes [] rides 1 (map strip_carriage_return f.prefix.parts) (pieces room rest) f.said
-    ∙ ap (λ (k : ℕ). onto rides (rides_in nodes rides (k + 1) (pieces room rest))) (length_map strip_carriage_return f.prefix.parts ∙ f.prefix.count)
+    ap (rides_in nodes [] 1) f.given.first ∙ rides_behind nodes [] rides 1 f.lines (pieces room rest) f.said
+    ∙ ap (λ (k : ℕ). onto rides (rides_in nodes rides (k + 1) (pieces room rest))) f.count
+
+length_more : (lines : List (List ℕ)) (line : List ℕ) → length (lines ++ line ∷ []) ≡ length lines + 1
+length_more [] line = refl
+length_more (x ∷ lines) line = let e = length_more lines line in omega arith
 
 -- one line more was read, and goes to further rides
-pub front_more : (nodes : ℕ) (rides more : List Request) (text rest bytes : List ℕ) (number room room' : ℕ) → IsFrontOf nodes rides text rest number room
-    → is_ended rest ≡ true → pieces room rest ≡ Whole bytes ∷ pieces room' (after_line rest) → rides_in nodes rides (number + 1) (Whole bytes ∷ []) ≡ record { rides = more; ends = AtEnd }
-    → IsFrontOf nodes (rides ++ more) text (after_line rest) (number + 1) room'
-front_more nodes rides more text rest bytes number room room' f e p said = record {
-  prefix = prefix_more largest_text text rest bytes number room room' f.prefix e p;
-  said = ap (rides_in nodes [] 1) (lines_of_more largest_text text rest bytes number room room' f.prefix e p) ∙ rides_behind nodes [] rides 1 (map strip_carriage_return f.prefix.parts) (Whole bytes ∷ []) f.said
-      ∙ ap (λ (k : ℕ). onto rides (rides_in nodes rides (k + 1) (Whole bytes ∷ []))) (length_map strip_carriage_return f.prefix.parts ∙ f.prefix.count) ∙ ap (onto rides) said;
+pub front_more : (nodes : ℕ) (rides more : List Request) (text bytes pending pending' : List ℕ) (left left' : Option (List ℕ)) (number room room' : ℕ) → IsPart nodes rides text (with_front pending left) number room
+    → ((lines : List (List ℕ)) → AreBefore largest_text text lines room pending left → AreBefore largest_text text (lines ++ bytes ∷ []) room' pending' left')
+    → rides_in nodes rides (number + 1) (Whole bytes ∷ []) ≡ record { rides = more; ends = AtEnd } → IsPart nodes (rides ++ more) text (with_front pending' left') (number + 1) room'
+front_more nodes rides more text bytes pending pending' None left' number room room' f goes said = absurd f
+front_more nodes rides more text bytes pending pending' (Some l) None number room room' f goes said = absurd (goes f.lines f.given)
+front_more nodes rides more text bytes pending pending' (Some l) (Some l') number room room' f goes said = record {
+  lines = f.lines ++ bytes ∷ [];
+  given = goes f.lines f.given;
+  count = length_more f.lines bytes ∙ ap (λ (k : ℕ). k + 1) f.count;
+  said = ap (rides_in nodes [] 1) (map_more f.lines bytes) ∙ rides_behind nodes [] rides 1 f.lines (Whole bytes ∷ []) f.said
+      ∙ ap (λ (k : ℕ). onto rides (rides_in nodes rides (k + 1) (Whole bytes ∷ []))) f.count ∙ ap (onto rides) said;
 }
+  where
+    map_more : (lines : List (List ℕ)) (line : List ℕ) → map Whole (lines ++ line ∷ []) ≡ map Whole lines ++ Whole line ∷ []
+    map_more [] line = refl
+    map_more (x ∷ lines) line = ap (λ (l : List Piece). Whole x ∷ l) (map_more lines line)
 
 -- what was read where the shelf failed
-pub unread_from : (nodes : ℕ) (rides : List Request) (text rest pending l : List ℕ) (left : Option (List ℕ)) (number room : ℕ) → IsFrontOf nodes rides text rest number room → rest ≡ pending ++ l → left ≡ Some l → position is_line_end pending ≡ None → length pending ≤ longest_line
-    → (r : IsReadTo largest_text text left) × (rides_in nodes [] 1 (map Whole (ended_lines r.read)) ≡ record { rides = rides; ends = AtEnd })
-unread_from nodes rides text rest pending l left number room f is e h short = (
-  read_to largest_text text rest pending l left number room f.prefix is e h short,
-  ap (λ (x : List (List ℕ)). rides_in nodes [] 1 (map Whole x)) (ended_read largest_text text rest pending l left number room f.prefix is e h short) ∙ f.said,
-)
+pub unread_from : (nodes : ℕ) (rides : List Request) (text pending : List ℕ) (left left' : Option (List ℕ)) (number room : ℕ) → IsPart nodes rides text (with_front pending left) number room
+    → ((lines : List (List ℕ)) → AreBefore largest_text text lines room pending left → IsReadWithLines largest_text text lines left')
+    → (r : IsReadTo largest_text text left') × (rides_in nodes [] 1 (map Whole (ended_lines r.read)) ≡ record { rides = rides; ends = AtEnd })
+unread_from nodes rides text pending None left' number room f failed = absurd f
+unread_from nodes rides text pending (Some l) left' number room f failed =
+    let r = failed f.lines f.given in
+    (r.0, ap (λ (x : List (List ℕ)). rides_in nodes [] 1 (map Whole x)) r.1 ∙ f.said)

@@ -1,7 +1,6 @@
 use Rattle.std.proofs.Common.{◌≡◌, ℕ, ◌+◌, ◌^◌, List, [], ◌∷◌, ◌++◌, Bool, true, false, Option, Some, None, refl, sym, ap, subst, ◌∙◌, arith, append_assoc, append-nil, map}
-use Rattle.std.specs.Prelude.{cond, not, nat_lt, nat_le, ◌==◌, ◌||◌, ◌&&◌, is_some, find}
+use Rattle.std.specs.Prelude.{cond, not, nat_lt, nat_le, ◌==◌, ◌||◌, ◌&&◌, is_some, is_none, find}
 use Rattle.std.specs.List.{list_any}
-use Rattle.std.proofs.lemmas.Bool.{eq-eqb, cond-true, and_from, or_from, le-leb, le-ltb}
 use Rattle.ride_base.specs.Outside.{Takes}
 use Rattle.ride_base.specs.declared.numbers.RequestNo.{RequestNo}
 use Rattle.road_graph.specs.Roads.{Roads, is_node}
@@ -15,21 +14,24 @@ use Rattle.insertion_cost.specs.declared.decision.Decision.TheVariants.{Assigned
 use Rattle.board_core.specs.declared.entry.Submitted.TheVariants.{Accepted, Refused}
 use Rattle.board_core.specs.declared.entry.Entry.{Entry}
 use Rattle.board_core.specs.declared.entry.Entry.TheVariants.{Submit, Claim, Back, Commit, Advance, Shut}
+use Rattle.board_core.specs.declared.entry.Reason.{Reason}
 use Rattle.board_core.specs.declared.entry.Reason.TheVariants.{Place, Riders, Moment, Repeated}
-use Rattle.board_core.specs.Boards.{Board, Answer, Waiting, IsFleet, opening_board, is_number, without}
+use Rattle.board_core.specs.Boards.{Board, Answer, Waiting, IsFleet, opening_board, is_number}
 use Rattle.board_core.specs.Histories.{Legal, Asked, Ride, Move, asked_in, AreAnsweredAtOnce}
 use Rattle.board_core.specs.Steps.{Step, refusal, answered, taken_on, with_car}
 use Rattle.board_core.proofs.Promising.{law}
 use Rattle.journal_text.specs.Groups.{group, journal_of}
-use Rattle.dispatch_top.specs.Deciding.{Decides}
+use Rattle.dispatch_top.specs.Deciding.{AllHaveLeastWalks, Decides, open_board}
 use Rattle.dispatch_top.specs.Opening.{opening_fleet}
 use Rattle.dispatch_top.specs.Runs.{IsHistoryOf}
-use Rattle.dispatch_top.specs.Streaming.{counted, HaveLeastWalks, IsFit, ride_group}
-use Rattle.dispatch_top.specs.Streams.{stood_before}
+use Rattle.dispatch_top.specs.Streaming.{counted, ride_group}
+use Rattle.dispatch_top.specs.Streams.{as_waiting, board_behind, is_accepted}
+use Rattle.dispatch_top.proofs.Accepting.{waits_any}
+use Rattle.dispatch_top.proofs.Planning.{gone}
 
 -- an open board on which nothing waits
 abbrev pub standing : Roads → Cars → List Answer → Board
-standing g fleet answers = record { nodes = g.nodes; fleet = fleet; closed = false; waiting = []; answers = answers }
+standing g fleet answers = open_board g.nodes fleet [] answers
 
 -- These rides were answered at once by this legal history, and it left this fleet.
 pub record AreAnswered (g : Roads) (rates : Rates) (vehicles : List Vehicle) (rides : List Request) (fleet : Cars) (history : List Entry) : Type 0 where
@@ -98,70 +100,67 @@ rides_any : (n : ℕ) (rides : List Request) → list_any (λ k. k == n) (map (�
 rides_any n [] = refl
 rides_any n (r ∷ rides) = ap (λ (b : Bool). (r.no.0 == n) || b) (rides_any n rides)
 
--- a fit ride of a new number is refused by no open board at the clock 0
-not_refused : (g : Roads) (fleet : Cars) (answers : List Answer) (r : Request) → IsFit g.nodes r → fleet.clock ≡ 0
-    → is_some (find (λ (a : Answer). is_number a.number r.no) answers) ≡ false → refusal (standing g fleet answers) r ≡ None
-not_refused g fleet answers r f c n =
-    let place : not (is_node g.nodes r.pickup && is_node g.nodes r.dropoff) ≡ false = ap not (and_from (is_node g.nodes r.pickup) (is_node g.nodes r.dropoff) f.pickup f.dropoff) in
-    let riders : not (nat_le 1 r.riders && nat_le r.riders 16) ≡ false = ap not (and_from (nat_le 1 r.riders) (nat_le r.riders 16) (le-leb 1 r.riders f.some_rider) (le-leb r.riders 16 f.few_riders)) in
-    let behind : nat_lt r.moment fleet.clock ≡ false = le-ltb r.moment fleet.clock (omega (arith, c)) in
-    let late : nat_lt (2 ^ 40) r.moment ≡ false = le-ltb (2 ^ 40) r.moment f.moment in
-    on (not (is_node g.nodes r.pickup && is_node g.nodes r.dropoff)) (not (nat_le 1 r.riders && nat_le r.riders 16)) (nat_lt r.moment fleet.clock || nat_lt (2 ^ 40) r.moment) (is_some (find (λ (a : Answer). is_number a.number r.no) answers))
-    place riders (or_from (nat_lt r.moment fleet.clock) (nat_lt (2 ^ 40) r.moment) behind late) n
-  where
-    on : (p q m n : Bool) → p ≡ false → q ≡ false → m ≡ false → n ≡ false → cond p (Some Place) (cond q (Some Riders) (cond m (Some Moment) (cond n (Some Repeated) None))) ≡ None
-    on true q m n a b c d = cc
-    on false true m n a b c d = cc
-    on false false true n a b c d = cc
-    on false false false true a b c d = cc
-    on false false false false a b c d = refl
+-- what a board refuses hangs on its nodes, its clock and the numbers that it accepted
+abbrev refused_by : (nodes clock : ℕ) → Bool → Request → Option Reason
+refused_by nodes clock before r =
+    cond (not (is_node nodes r.pickup && is_node nodes r.dropoff)) (Some Place)
+    (cond (not (nat_le 1 r.riders && nat_le r.riders 16)) (Some Riders)
+    (cond (nat_lt r.moment clock || nat_lt (2 ^ 40) r.moment) (Some Moment)
+    (cond before (Some Repeated) None)))
 
--- the one ride that waits, found by its number, and none without it
-found : (r : Request) → find (λ (w : Waiting). is_number w.request.no r.no) (record { request = r; holder = None } ∷ []) ≡ Some (record { request = r; holder = None })
-found r = cond-true (r.no.0 == r.no.0) (Some (record { request = r; holder = None })) None (eq-eqb r.no.0 r.no.0 refl)
+or_false : (b : Bool) → b ≡ (b || false)
+or_false true = refl
+or_false false = refl
 
-gone : (r : Request) → without r.no (record { request = r; holder = None } ∷ []) ≡ []
-gone r = on (r.no.0 == r.no.0) (eq-eqb r.no.0 r.no.0 refl)
-  where
-    on : (b : Bool) → b ≡ true → cond {A = List Waiting} (not b) (record { request = r; holder = None } ∷ []) [] ≡ []
-    on true h = refl
-    on false h = cc
+none_of : {X : Type 0} (o : Option X) → is_none o ≡ true → o ≡ None
+none_of None h = refl
+none_of (Some x) h = cc
+
+-- an open board at the clock 0 refuses no ride that is accepted behind those that it answered
+not_refused : (g : Roads) (fleet : Cars) (answers : List Answer) (rides : List Request) (r : Request) → map (λ (a : Answer). a.number.0) answers ≡ map (λ (q : Request). q.no.0) rides → fleet.clock ≡ 0 → is_accepted g.nodes rides r ≡ true
+    → refusal (standing g fleet answers) r ≡ None
+not_refused g fleet answers rides r numbers clock accepted =
+    let stood : is_some (find (λ (a : Answer). is_number a.number r.no) answers) ≡ is_some (find (λ (w : Waiting). is_number w.request.no r.no) (map as_waiting rides)) =
+    answered_any r.no answers ∙ ap (list_any (λ k. k == r.no.0)) numbers ∙ rides_any r.no.0 rides ∙ sym (waits_any r.no rides) in
+    ap (λ (k : ℕ). refused_by g.nodes k (is_some (find (λ (a : Answer). is_number a.number r.no) answers)) r) clock
+    ∙ ap (λ (b : Bool). refused_by g.nodes 0 b r) (stood ∙ or_false (is_some (find (λ (w : Waiting). is_number w.request.no r.no) (map as_waiting rides))))
+    ∙ none_of (refusal (board_behind g.nodes rides) r) accepted
 
 -- the board on which one ride waits
 abbrev waiting_board : Roads → Cars → List Answer → Request → Board
-waiting_board g fleet answers r = record { nodes = g.nodes; fleet = counted fleet; closed = false; waiting = record { request = r; holder = None } ∷ []; answers = answers }
+waiting_board g fleet answers r = open_board g.nodes (counted fleet) (as_waiting r ∷ []) answers
 
--- the second step of a ride
+-- the second step of a ride, behind the answers to others
 committed : (g : Roads) (fleet next : Cars) (answers : List Answer) (r : Request) (d : Decision) → Decides g (counted fleet) r d next
     → Step g (waiting_board g fleet answers r) (Commit r.no d) (standing g next (answers ++ record { number = r.no; decision = d } ∷ []))
 committed g fleet next answers r (IsAssigned a) h = record {
-  waits = record { request = r; holder = None };
+  waits = h.waits;
   direct = h.direct;
   car = h.car;
-  waiting = found r;
+  waiting = h.waiting;
   best = h.best;
   direct_way = h.direct_way;
   stands = h.stands;
   walks = h.walks;
-  leads_to = ap (λ (c : Cars). standing g c (answers ++ record { number = r.no; decision = IsAssigned a } ∷ [])) h.leads_to
-      ∙ ap (λ (ws : List Waiting). with_car (record (answered (waiting_board g fleet answers r) r.no (IsAssigned a)) { waiting = ws }) a.offer.place (taken_on (waiting_board g fleet answers r) h.car r h.direct a)) (sym (gone r));
+  leads_to = ap {B = Board} (λ (b : Board). standing g b.fleet (answers ++ record { number = r.no; decision = IsAssigned a } ∷ [])) h.leads_to
+      ∙ ap {B = Board} (λ (ws : List Waiting). with_car (record (answered (waiting_board g fleet answers r) r.no (IsAssigned a)) { waiting = ws }) a.offer.place (taken_on (waiting_board g fleet answers r) h.car h.waits.request h.direct a)) (sym (gone r));
 }
 committed g fleet next answers r Nobody h = record {
-  waits = record { request = r; holder = None };
-  waiting = found r;
-  none = h.0;
-  leads_to = ap (λ (c : Cars). standing g c (answers ++ record { number = r.no; decision = Nobody } ∷ [])) h.1
-      ∙ ap (λ (ws : List Waiting). record (answered (waiting_board g fleet answers r) r.no Nobody) { waiting = ws }) (sym (gone r));
+  waits = h.waits;
+  waiting = h.waiting;
+  none = h.none;
+  leads_to = ap {B = Board} (λ (b : Board). standing g b.fleet (answers ++ record { number = r.no; decision = Nobody } ∷ [])) h.leads_to
+      ∙ ap {B = Board} (λ (ws : List Waiting). record (answered (waiting_board g fleet answers r) r.no Nobody) { waiting = ws }) (sym (gone r));
 }
 
 clock_stays : (g : Roads) (fleet next : Cars) (r : Request) (d : Decision) → Decides g (counted fleet) r d next → next.clock ≡ fleet.clock
-clock_stays g fleet next r (IsAssigned a) h = ap (λ (c : Cars). c.clock) h.leads_to
-clock_stays g fleet next r Nobody h = ap (λ (c : Cars). c.clock) h.1
+clock_stays g fleet next r (IsAssigned a) h = ap (λ (b : Board). b.fleet.clock) h.leads_to
+clock_stays g fleet next r Nobody h = ap (λ (b : Board). b.fleet.clock) h.leads_to
 
 -- each ride counts two entries
 pub version_more : (g : Roads) (fleet next : Cars) (r : Request) (d : Decision) → Decides g (counted fleet) r d next → next.version ≡ fleet.version + 2
-version_more g fleet next r (IsAssigned a) h = ap (λ (c : Cars). c.version) h.leads_to ∙ omega arith
-version_more g fleet next r Nobody h = ap (λ (c : Cars). c.version) h.1 ∙ omega arith
+version_more g fleet next r (IsAssigned a) h = ap (λ (b : Board). b.fleet.version) h.leads_to ∙ omega arith
+version_more g fleet next r Nobody h = ap (λ (b : Board). b.fleet.version) h.leads_to ∙ omega arith
 
 -- the history with a ride and its answer
 abbrev pub with_ride : List Entry → Request → Decision → List Entry
@@ -169,17 +168,15 @@ with_ride history r d = history ++ Submit r Accepted ∷ Commit r.no d ∷ []
 
 -- one ride more
 pub one_more : (g : Roads) (rates : Rates) (vehicles : List Vehicle) (rides : List Request) (fleet next : Cars) (r : Request) (history : List Entry) (d : Decision)
-    → AreAnswered g rates vehicles rides fleet history → IsFit g.nodes r → stood_before rides r ≡ false → Decides g (counted fleet) r d next
+    → AreAnswered g rates vehicles rides fleet history → is_accepted g.nodes rides r ≡ true → Decides g (counted fleet) r d next
     → AreAnswered g rates vehicles (rides ++ r ∷ []) next (with_ride history r d)
-one_more g rates vehicles rides fleet next r history d h f n a =
-    let unanswered : is_some (find (λ (x : Answer). is_number x.number r.no) h.answers) ≡ false =
-    answered_any r.no h.answers ∙ ap (list_any (λ k. k == r.no.0)) h.numbers ∙ rides_any r.no.0 rides ∙ n in
+one_more g rates vehicles rides fleet next r history d h accepted a =
     record {
       answers = h.answers ++ record { number = r.no; decision = d } ∷ [];
       legal = legal_more g (opening_board g.nodes rates vehicles) history (Submit r Accepted ∷ Commit r.no d ∷ []) (standing g fleet h.answers)
           (standing g next (h.answers ++ record { number = r.no; decision = d } ∷ [])) h.legal (
             waiting_board g fleet h.answers r,
-            (not_refused g fleet h.answers r f h.clock unanswered, refl),
+            (not_refused g fleet h.answers rides r h.numbers h.clock accepted, refl),
             (standing g next (h.answers ++ record { number = r.no; decision = d } ∷ []), committed g fleet next h.answers r d a, refl),
           );
       numbers = map_more (λ (x : Answer). x.number.0) h.answers (record { number = r.no; decision = d } ∷ []) ∙ ap (λ (l : List ℕ). l ++ r.no.0 ∷ []) h.numbers
@@ -206,7 +203,7 @@ took_nothing (Some a) = sym (append-nil a)
 
 -- the schedules have least walks after each history
 pub walks_least : (g : Roads) (rates : Rates) (vehicles : List Vehicle) (rides : List Request) (fleet : Cars) (history : List Entry) → AreVehicles g.nodes vehicles → AreAnswered g rates vehicles rides fleet history
-    → HaveLeastWalks g fleet.cars
+    → AllHaveLeastWalks g fleet
 walks_least g rates vehicles rides fleet history v h place car e =
     ((law g g.nodes rates vehicles history (standing g fleet h.answers) (is_fleet g.nodes vehicles v) h.legal history [] (standing g fleet h.answers) (sym (append-nil history)) h.legal).schedules place car e).2
 

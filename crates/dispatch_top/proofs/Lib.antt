@@ -1,5 +1,8 @@
+pub mod Accepting
+pub mod Completing
 pub mod Fronts
 pub mod Histories
+pub mod Legs
 pub mod Offering
 pub mod Planning
 pub mod Reaches

@@ -1,5 +1,6 @@
-use Rattle.std.proofs.Common.{◌≡◌, ℕ, ◌<◌, ◌≤◌, ◌^◌, ◌+◌, List, length, Some, sym, ap, ◌∙◌, subst, arith}
-use Rattle.std.specs.Prelude.{slice_get, slice_set}
+use Rattle.std.proofs.Common.{◌≡◌, ℕ, ◌<◌, ◌≤◌, ◌^◌, ◌+◌, List, [], ◌∷◌, length, Bool, true, false, cond, Option, Some, None, refl, sym, ap, ◌∙◌, subst, arith}
+use Rattle.std.specs.Prelude.{◌==◌, not, find, slice_get, slice_set}
+use Rattle.std.proofs.lemmas.Bool.{eq-eqb, cond-true}
 use Rattle.std.proofs.lemmas.Option.{slice_get_within}
 use Rattle.road_graph.specs.Paths.{Path}
 use Rattle.road_graph.specs.Roads.{Roads}
@@ -16,9 +17,15 @@ use Rattle.stop_schedule.specs.Plans.{Plan}
 use Rattle.stop_schedule.specs.Rates.{Rates}
 use Rattle.insertion_cost.specs.declared.offer.Offer.{Offer}
 use Rattle.insertion_cost.specs.Distances.{AreLeastWalks}
-use Rattle.insertion_cost.specs.Offers.{IsBest, IsOffer, price_in}
+use Rattle.insertion_cost.specs.declared.decision.Decision.{Decision}
+use Rattle.insertion_cost.specs.declared.decision.Decision.TheVariants.{Assigned as IsAssigned, Nobody}
+use Rattle.insertion_cost.specs.Offers.{IsBest, IsOffer, NoOffer, price_in}
 use Rattle.insertion_cost.specs.Prices.{promise_of}
-use Rattle.dispatch_top.specs.Deciding.{IsPlanned, IsTakenOn}
+use Rattle.board_core.specs.Boards.{Board, Waiting, is_number, without}
+use Rattle.board_core.specs.Steps.{answered, taken_on, with_car}
+use Rattle.dispatch_top.specs.Choosing.{IsBestOrNone}
+use Rattle.dispatch_top.specs.Deciding.{Decides, IsPlanned, answering_board, asking_board}
+use Rattle.dispatch_top.specs.Streams.{as_waiting}
 use Rattle.dispatch_top.proofs.Taking.{offer_times}
 
 -- the times of an offer are small enough for a promise
@@ -58,17 +65,48 @@ as_planned g fleet r o walks planned direct car rates p stops front promise stan
 pub place_within : (g : Roads) (fleet : Cars) (r : Request) (o : Offer) (walks : List Path) (planned : Plan) → IsPlanned g fleet r o walks planned → o.place < length fleet.cars
 place_within g fleet r o walks planned p = slice_get_within fleet.cars o.place p.car p.stands
 
+-- the one request that waits, found by its number, and none without it
+found : (r : Request) → find (λ (w : Waiting). is_number w.request.no r.no) (as_waiting r ∷ []) ≡ Some (as_waiting r)
+found r = cond-true (r.no.0 == r.no.0) (Some (as_waiting r)) None (eq-eqb r.no.0 r.no.0 refl)
+
+pub gone : (r : Request) → without r.no (as_waiting r ∷ []) ≡ []
+gone r = on (r.no.0 == r.no.0) (eq-eqb r.no.0 r.no.0 refl)
+  where
+    on : (b : Bool) → b ≡ true → cond {A = List Waiting} (not b) (as_waiting r ∷ []) [] ≡ []
+    on true h = refl
+    on false h = cc
+
 -- the fleet in which its vehicle has the new schedule is that of the answer
 pub as_taken : (g : Roads) (old : Cars) (r : Request) (o : Offer) (walks : List Path) (planned : Plan) (new : Cars) → IsBest g old r o → IsPlanned g old r o walks planned
     → ((car : Car) → slice_get old.cars o.place ≡ Some car → new ≡ record old { version = old.version + 1; cars = slice_set old.cars o.place (record car { plan = planned; stamp = old.version + 1 }) })
-    → IsTakenOn g old r (record { offer = o; walks = walks }) new
+    → Decides g old r (IsAssigned (record { offer = o; walks = walks })) new
 as_taken g old r o walks planned new best p takes = record {
+  waits = as_waiting r;
   direct = p.direct;
   car = p.car;
+  waiting = found r;
   best = best;
   direct_way = p.direct_way;
   stands = p.stands;
   walks = p.least;
-  leads_to = takes p.car p.stands
-      ∙ ap {B = Cars} (λ (q : Plan). record old { version = old.version + 1; cars = slice_set old.cars o.place (record p.car { plan = q; stamp = old.version + 1 }) }) p.is;
+  leads_to = ap {B = Board} (λ (c : Cars). answering_board g.nodes c r made) (takes p.car p.stands)
+      ∙ ap {B = Board} (λ (q : Plan). answering_board g.nodes (record old { version = old.version + 1; cars = slice_set old.cars o.place (record p.car { plan = q; stamp = old.version + 1 }) }) r made) p.is
+      ∙ ap {B = Board} (λ (ws : List Waiting). with_car (record (answered (asking_board g.nodes old r) r.no made) { waiting = ws }) o.place (taken_on (asking_board g.nodes old r) p.car r p.direct (record { offer = o; walks = walks }))) (sym (gone r));
+}
+  where
+    made : Decision
+    made = IsAssigned (record { offer = o; walks = walks })
+
+-- there is no offer where none was the best
+no_best : (g : Roads) (fleet : Cars) (r : Request) (o : Option Offer) → ((x : Offer) → o ≡ Some x → ⊥) → IsBestOrNone g fleet r o → NoOffer g fleet r
+no_best g fleet r None n h = h
+no_best g fleet r (Some x) n h = absurd (n x refl)
+
+-- the fleet that counts the entry is that of nobody's answer
+pub as_turned_down : (g : Roads) (old : Cars) (r : Request) (o : Option Offer) (new : Cars) → ((x : Offer) → o ≡ Some x → ⊥) → IsBestOrNone g old r o → new ≡ record old { version = old.version + 1 } → Decides g old r Nobody new
+as_turned_down g old r o new n h e = record {
+  waits = as_waiting r;
+  waiting = found r;
+  none = no_best g old r o n h;
+  leads_to = ap {B = Board} (λ (c : Cars). answering_board g.nodes c r Nobody) e ∙ ap {B = Board} (λ (ws : List Waiting). record (answered (asking_board g.nodes old r) r.no Nobody) { waiting = ws }) (sym (gone r));
 }

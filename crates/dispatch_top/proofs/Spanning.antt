@@ -1,6 +1,6 @@
-use Rattle.std.proofs.Common.{◌≡◌, ℕ, ◌+◌, ◌<◌, ◌≤◌, ◌^◌, ◌==◌, List, [], ◌∷◌, ◌++◌, length, Option, Some, None, Bool, true, false, cond, refl, subst, sym, arith}
-use Rattle.std.specs.Prelude.{option_to_list, nat_lt, IfSome}
-use Rattle.std.proofs.lemmas.Bool.Decides.{nat_tests}
+use Rattle.std.proofs.Common.{◌≡◌, ℕ, ◌+◌, ◌<◌, ◌≤◌, ◌^◌, List, [], ◌∷◌, ◌++◌, length, Option, Some, None, refl, subst, sym, ap, ◌∙◌, inl, inr, ◌⊎◌}
+use Rattle.std.specs.Prelude.{option_to_list, IfSome}
+use Rattle.std.proofs.lemmas.Bool.{cases_eq}
 use Rattle.road_graph.specs.declared.road.NodeNo.{NodeNo}
 use Rattle.road_graph.specs.Graphs.{IsGraph}
 use Rattle.road_graph.specs.Roads.{Roads}
@@ -15,22 +15,7 @@ use Rattle.insertion_cost.specs.declared.spans.Spans.{Spans}
 use Rattle.insertion_cost.specs.Distances.{AreDistances}
 use Rattle.insertion_cost.specs.Spans.{AreSpans, lengths_of}
 use Rattle.dispatch_top.specs.Choosing.{HaveShape}
-
--- the pairs of nodes of an insertion, by whether its stops are neighbours and whether a stop follows
-abbrev pub ends_with : Bool → Bool → (a b c d e : NodeNo × NodeNo) → List (NodeNo × NodeNo)
-ends_with together follows a b c d e = a ∷ cond together (b ∷ []) (c ∷ d ∷ []) ++ cond follows (e ∷ []) []
-
-pub same_test : (i j : ℕ) → i ≡ j → (i == j) ≡ true
-same_test i j e = grind (arith, nat_tests)
-
-pub apart_test : (i j : ℕ) → (i ≡ j → ⊥) → (i == j) ≡ false
-apart_test i j e = grind (arith, nat_tests)
-
-pub follows_test : (j m : ℕ) → j < m → nat_lt j m ≡ true
-follows_test j m lt = grind (arith, nat_tests)
-
-pub ends_test : (j m : ℕ) → m ≤ j → nat_lt j m ≡ false
-ends_test j m le = grind (arith, nat_tests)
+use Rattle.dispatch_top.proofs.Legs.{ends_behind, ends_together, ends_apart, one_behind, none_behind}
 
 -- with no walk for the first pair there are no distances
 pub no_first : (g : Roads) (ends : NodeNo × NodeNo) (more : List (NodeNo × NodeNo)) → NoWalk g ends.0 ends.1 → (lengths : List ℕ) → AreDistances g (ends ∷ more) lengths → ⊥
@@ -41,87 +26,66 @@ pub no_later : (g : Roads) (ends : NodeNo × NodeNo) (more : List (NodeNo × Nod
 no_later g ends more lacks [] d = d
 no_later g ends more lacks (x ∷ lengths) d = lacks lengths d.1
 
--- with no walk out of the pickup
-no_second : (g : Roads) (together follows : Bool) (a b c d e : NodeNo × NodeNo) → together ≡ false → NoWalk g c.0 c.1 → (lengths : List ℕ) → AreDistances g (ends_with together follows a b c d e) lengths → ⊥
-no_second g true follows a b c d e is lacks = cc
-no_second g false follows a b c d e is lacks = no_later g a (c ∷ d ∷ cond follows (e ∷ []) []) (no_first g c (d ∷ cond follows (e ∷ []) []) lacks)
-
--- with no walk into the dropoff
-no_third : (g : Roads) (together follows : Bool) (a b c d e : NodeNo × NodeNo) → together ≡ false → NoWalk g d.0 d.1 → (lengths : List ℕ) → AreDistances g (ends_with together follows a b c d e) lengths → ⊥
-no_third g true follows a b c d e is lacks = cc
-no_third g false follows a b c d e is lacks =
-    no_later g a (c ∷ d ∷ cond follows (e ∷ []) []) (no_later g c (d ∷ cond follows (e ∷ []) []) (no_first g d (cond follows (e ∷ []) []) lacks))
-
--- with no walk out of the dropoff
-no_last : (g : Roads) (together follows : Bool) (a b c d e : NodeNo × NodeNo) → follows ≡ true → NoWalk g e.0 e.1 → (lengths : List ℕ) → AreDistances g (ends_with together follows a b c d e) lengths → ⊥
-no_last g true true a b c d e is lacks = no_later g a (b ∷ e ∷ []) (no_later g b (e ∷ []) (no_first g e [] lacks))
-no_last g false true a b c d e is lacks = no_later g a (c ∷ d ∷ e ∷ []) (no_later g c (d ∷ e ∷ []) (no_later g d (e ∷ []) (no_first g e [] lacks)))
-no_last g true false a b c d e is lacks = cc
-no_last g false false a b c d e is lacks = cc
-
--- the distance of the pair behind the dropoff, where there is one
-abbrev pub IsBehind : Roads → Bool → NodeNo × NodeNo → Option ℕ → Type 0
-IsBehind g true e None = ⊥
-IsBehind g true e (Some x) = IsDist g e.0 e.1 x
-IsBehind g false e None = Unit {0}
-IsBehind g false e (Some x) = ⊥
-
-behind_some : (g : Roads) (follows : Bool) (e : NodeNo × NodeNo) (x : ℕ) → follows ≡ true → IsDist g e.0 e.1 x → IsBehind g follows e (Some x)
-behind_some g true e x is d = d
-behind_some g false e x is d = cc
-
-behind_none : (g : Roads) (follows : Bool) (e : NodeNo × NodeNo) → follows ≡ false → IsBehind g follows e None
-behind_none g true e is = cc
-behind_none g false e is = tt
-
-behind_last : (g : Roads) (follows : Bool) (e : NodeNo × NodeNo) (o : Option ℕ) → IsBehind g follows e o → AreDistances g (cond follows (e ∷ []) []) (option_to_list o)
-behind_last g true e None b = b
-behind_last g true e (Some x) b = (b, refl)
-behind_last g false e None b = refl
-behind_last g false e (Some x) b = absurd b
-
--- the distances where pickup and dropoff are neighbours
-all_together : (g : Roads) (together follows : Bool) (a b c d e : NodeNo × NodeNo) (x y : ℕ) (o : Option ℕ) → together ≡ true
-    → IsDist g a.0 a.1 x → IsDist g b.0 b.1 y → IsBehind g follows e o → AreDistances g (ends_with together follows a b c d e) (x ∷ y ∷ option_to_list o)
-all_together g true follows a b c d e x y o is first middle behind = (first, (middle, behind_last g follows e o behind))
-all_together g false follows a b c d e x y o is first middle behind = cc
-
--- and where they are apart
-all_apart : (g : Roads) (together follows : Bool) (a b c d e : NodeNo × NodeNo) (x y z : ℕ) (o : Option ℕ) → together ≡ false
-    → IsDist g a.0 a.1 x → IsDist g c.0 c.1 y → IsDist g d.0 d.1 z → IsBehind g follows e o → AreDistances g (ends_with together follows a b c d e) (x ∷ y ∷ z ∷ option_to_list o)
-all_apart g true follows a b c d e x y z o is first second third behind = cc
-all_apart g false follows a b c d e x y z o is first second third behind = (first, (second, (third, behind_last g follows e o behind)))
-
--- the same of an insertion
+-- an insertion has no distances, where there is no walk out of the pickup
 pub no_way_on : (g : Roads) (stops : List Stop) (front : Front) (r : Request) (at : Insertion) → (at.i ≡ at.j → ⊥) → NoWalk g r.pickup (node_at front stops (at.i + 1))
     → (lengths : List ℕ) → AreDistances g (changed_ends stops front r at) lengths → ⊥
-no_way_on g stops front r at apart lacks = no_second g (at.i == at.j) (nat_lt at.j (length stops)) (node_at front stops at.i, r.pickup) (r.pickup, r.dropoff) (r.pickup, node_at front stops (at.i + 1)) (node_at front stops at.j, r.dropoff) (r.dropoff, node_at front stops (at.j + 1)) (apart_test at.i at.j apart) lacks
+no_way_on g stops front r at apart lacks lengths d =
+    let a : NodeNo × NodeNo = (node_at front stops at.i, r.pickup) in
+    let on : NodeNo × NodeNo = (r.pickup, node_at front stops (at.i + 1)) in
+    let more : List (NodeNo × NodeNo) = (node_at front stops at.j, r.dropoff) ∷ ends_behind stops front r at in
+    no_later g a (on ∷ more) (no_first g on more lacks) lengths (subst (λ (ends : List (NodeNo × NodeNo)). AreDistances g ends lengths) (ends_apart stops front r at apart) d)
 
+-- into the dropoff
 pub no_way_in : (g : Roads) (stops : List Stop) (front : Front) (r : Request) (at : Insertion) → (at.i ≡ at.j → ⊥) → NoWalk g (node_at front stops at.j) r.dropoff
     → (lengths : List ℕ) → AreDistances g (changed_ends stops front r at) lengths → ⊥
-no_way_in g stops front r at apart lacks = no_third g (at.i == at.j) (nat_lt at.j (length stops)) (node_at front stops at.i, r.pickup) (r.pickup, r.dropoff) (r.pickup, node_at front stops (at.i + 1)) (node_at front stops at.j, r.dropoff) (r.dropoff, node_at front stops (at.j + 1)) (apart_test at.i at.j apart) lacks
+no_way_in g stops front r at apart lacks lengths d =
+    let a : NodeNo × NodeNo = (node_at front stops at.i, r.pickup) in
+    let on : NodeNo × NodeNo = (r.pickup, node_at front stops (at.i + 1)) in
+    let in_ : NodeNo × NodeNo = (node_at front stops at.j, r.dropoff) in
+    let more = ends_behind stops front r at in
+    no_later g a (on ∷ in_ ∷ more) (no_later g on (in_ ∷ more) (no_first g in_ more lacks)) lengths (subst (λ (ends : List (NodeNo × NodeNo)). AreDistances g ends lengths) (ends_apart stops front r at apart) d)
 
+-- or out of the dropoff
 pub no_way_out : (g : Roads) (stops : List Stop) (front : Front) (r : Request) (at : Insertion) → at.j < length stops → NoWalk g r.dropoff (node_at front stops (at.j + 1))
     → (lengths : List ℕ) → AreDistances g (changed_ends stops front r at) lengths → ⊥
-no_way_out g stops front r at follows lacks = no_last g (at.i == at.j) (nat_lt at.j (length stops)) (node_at front stops at.i, r.pickup) (r.pickup, r.dropoff) (r.pickup, node_at front stops (at.i + 1)) (node_at front stops at.j, r.dropoff) (r.dropoff, node_at front stops (at.j + 1)) (follows_test at.j (length stops) follows) lacks
+no_way_out g stops front r at follows lacks lengths d = on (cases_eq at.i at.j)
+  where
+    a : NodeNo × NodeNo
+    a = (node_at front stops at.i, r.pickup)
 
+    out : NodeNo × NodeNo
+    out = (r.dropoff, node_at front stops (at.j + 1))
+
+    on : (at.i ≡ at.j) ⊎ (at.i ≡ at.j → ⊥) → ⊥
+    on (inl same) =
+        let b : NodeNo × NodeNo = (r.pickup, r.dropoff) in
+        let all : changed_ends stops front r at ≡ a ∷ b ∷ out ∷ [] = ends_together stops front r at same ∙ ap (λ (l : List (NodeNo × NodeNo)). a ∷ b ∷ l) (one_behind stops front r at follows) in
+        no_later g a (b ∷ out ∷ []) (no_later g b (out ∷ []) (no_first g out [] lacks)) lengths (subst (λ (ends : List (NodeNo × NodeNo)). AreDistances g ends lengths) all d)
+    on (inr apart) =
+        let b : NodeNo × NodeNo = (r.pickup, node_at front stops (at.i + 1)) in
+        let c : NodeNo × NodeNo = (node_at front stops at.j, r.dropoff) in
+        let all : changed_ends stops front r at ≡ a ∷ b ∷ c ∷ out ∷ [] = ends_apart stops front r at apart ∙ ap (λ (l : List (NodeNo × NodeNo)). a ∷ b ∷ c ∷ l) (one_behind stops front r at follows) in
+        no_later g a (b ∷ c ∷ out ∷ []) (no_later g b (c ∷ out ∷ []) (no_later g c (out ∷ []) (no_first g out [] lacks))) lengths (subst (λ (ends : List (NodeNo × NodeNo)). AreDistances g ends lengths) all d)
+
+-- the distance behind the dropoff, where a stop follows
 abbrev pub IsOut : Roads → List Stop → Front → Request → Insertion → Option ℕ → Type 0
-IsOut g stops front r at o = IsBehind g (nat_lt at.j (length stops)) (r.dropoff, node_at front stops (at.j + 1)) o
+IsOut g stops front r at o = AreDistances g (ends_behind stops front r at) (option_to_list o)
 
 pub some_out : (g : Roads) (stops : List Stop) (front : Front) (r : Request) (at : Insertion) (x : ℕ) → at.j < length stops → IsDist g r.dropoff (node_at front stops (at.j + 1)) x → IsOut g stops front r at (Some x)
-some_out g stops front r at x follows d = behind_some g (nat_lt at.j (length stops)) (r.dropoff, node_at front stops (at.j + 1)) x (follows_test at.j (length stops) follows) d
+some_out g stops front r at x follows d = subst (λ (ends : List (NodeNo × NodeNo)). AreDistances g ends (x ∷ [])) (sym (one_behind stops front r at follows)) (d, refl)
 
 pub none_out : (g : Roads) (stops : List Stop) (front : Front) (r : Request) (at : Insertion) → length stops ≤ at.j → IsOut g stops front r at None
-none_out g stops front r at last = behind_none g (nat_lt at.j (length stops)) (r.dropoff, node_at front stops (at.j + 1)) (ends_test at.j (length stops) last)
+none_out g stops front r at last = subst (λ (ends : List (NodeNo × NodeNo)). AreDistances g ends []) (sym (none_behind stops front r at last)) refl
 
 pub ways_together : (g : Roads) (stops : List Stop) (front : Front) (r : Request) (at : Insertion) (x y : ℕ) (o : Option ℕ) → at.i ≡ at.j
     → IsDist g (node_at front stops at.i) r.pickup x → IsDist g r.pickup r.dropoff y → IsOut g stops front r at o → AreDistances g (changed_ends stops front r at) (x ∷ y ∷ option_to_list o)
-ways_together g stops front r at x y o together = all_together g (at.i == at.j) (nat_lt at.j (length stops)) (node_at front stops at.i, r.pickup) (r.pickup, r.dropoff) (r.pickup, node_at front stops (at.i + 1)) (node_at front stops at.j, r.dropoff) (r.dropoff, node_at front stops (at.j + 1)) x y o (same_test at.i at.j together)
+ways_together g stops front r at x y o same first middle out = subst (λ (ends : List (NodeNo × NodeNo)). AreDistances g ends (x ∷ y ∷ option_to_list o)) (sym (ends_together stops front r at same)) (first, (middle, out))
 
 pub ways_apart : (g : Roads) (stops : List Stop) (front : Front) (r : Request) (at : Insertion) (x y z : ℕ) (o : Option ℕ) → (at.i ≡ at.j → ⊥)
     → IsDist g (node_at front stops at.i) r.pickup x → IsDist g r.pickup (node_at front stops (at.i + 1)) y → IsDist g (node_at front stops at.j) r.dropoff z → IsOut g stops front r at o
     → AreDistances g (changed_ends stops front r at) (x ∷ y ∷ z ∷ option_to_list o)
-ways_apart g stops front r at x y z o apart = all_apart g (at.i == at.j) (nat_lt at.j (length stops)) (node_at front stops at.i, r.pickup) (r.pickup, r.dropoff) (r.pickup, node_at front stops (at.i + 1)) (node_at front stops at.j, r.dropoff) (r.dropoff, node_at front stops (at.j + 1)) x y z o (apart_test at.i at.j apart)
+ways_apart g stops front r at x y z o apart first second third out =
+    subst (λ (ends : List (NodeNo × NodeNo)). AreDistances g ends (x ∷ y ∷ z ∷ option_to_list o)) (sym (ends_apart stops front r at apart)) (first, (second, (third, out)))
 
 abbrev AreShort : List ℕ → Type 0
 AreShort [] = Unit {0}

@@ -1,5 +1,5 @@
 use Rattle.std.proofs.Common.{◌≡◌, ℕ, suc, length-append, ◌+◌, ◌*◌, ◌<◌, ◌≤◌, ◌^◌, List, [], ◌∷◌, ◌++◌, Bool, true, false, cond, Option, Some, None, Result, Ok, Err, refl, sym, ap, subst, ◌∙◌, arith, append_assoc, append-nil, map, inl, inr, ◌⊎◌, position, length, take}
-use Rattle.std.specs.Prelude.{IsErr, IsErrAnd, is_some, not, nat_le, ◌==◌, ◌||◌, ◌&&◌}
+use Rattle.std.specs.Prelude.{IsErr, IsErrAnd, is_some, nat_le, ◌==◌, ◌||◌, ◌&&◌}
 use Rattle.std.specs.BTreeMap.{is_at}
 use Rattle.std.specs.BTreeSet.{BTreeSet, contains}
 use Rattle.std.specs.List.{list_any}
@@ -8,8 +8,8 @@ use Rattle.std.proofs.lemmas.Bool.{eq-eqb, ne_eqb, cases_eq, cond-true, cond-fal
 use Rattle.std.proofs.lemmas.Bool.Decides.{nat_tests}
 use Rattle.std.proofs.lemmas.List.Folds.{list_any-append}
 use Rattle.ride_base.specs.Outside.{Takes, TakesPrefix}
-use Rattle.ride_base.specs.Pieces.{Piece, Whole, TooLong, TooLarge, pieces, after_line, is_line_end, is_ended, ended_lines, longest_line}
-use Rattle.ride_base.specs.Prefixes.{IsReadTo}
+use Rattle.ride_base.specs.Pieces.{Piece, Whole, TooLong, TooLarge, pieces, after_line, is_line_end, is_ended, ended_lines, largest_text}
+use Rattle.ride_base.specs.Prefixes.{IsReadTo, IsReadWithLines, AreGiven}
 use Rattle.ride_base.specs.Reader.{Reader}
 use Rattle.ride_base.specs.Reading.{Tells, unread}
 use Rattle.ride_base.specs.Told.{WhereTold}
@@ -17,7 +17,7 @@ use Rattle.ride_base.specs.declared.lines.Line.{Line}
 use Rattle.ride_base.specs.declared.lines.LineFault.{LineFault}
 use Rattle.ride_base.specs.declared.lines.LineFault.TheVariants.{Fault, Long, Large, NoMemory as LineNoMemory}
 use Rattle.ride_base.proofs.Cutting.{after_last_line}
-use Rattle.road_graph.specs.Roads.{Roads, is_node}
+use Rattle.road_graph.specs.Roads.{Roads}
 use Rattle.stop_schedule.specs.declared.request.Request.{Request}
 use Rattle.stop_schedule.specs.declared.vehicle.Vehicle.{Vehicle}
 use Rattle.stop_schedule.specs.Fleets.{Cars}
@@ -31,17 +31,14 @@ use Rattle.board_core.specs.declared.entry.Entry.{Entry}
 use Rattle.journal_text.specs.Groups.{journal_of}
 use Rattle.dispatch_top.specs.declared.ending.Ending.{Ending}
 use Rattle.dispatch_top.specs.declared.ending.Ending.TheVariants.{NotYet, GraphText, FleetText, StreamText, ReadFault, WriteFault, NoMemory}
+use Rattle.dispatch_top.specs.Deciding.{AllHaveLeastWalks}
 use Rattle.dispatch_top.specs.Opening.{opening_fleet}
 use Rattle.dispatch_top.specs.Runs.{EndsAt, EndsEarly}
-use Rattle.dispatch_top.specs.Streaming.{AreMore, HaveLeastWalks, IsFit, LineAnswer, LineGiven, RideAnswer, Streamed, accepted_by, asked_by, ending_of_line, ride_group}
-use Rattle.dispatch_top.specs.Streams.{Rides, AtEnd, AtLater, AtBad, StreamEnd, rides_in, rides_of, from_line, onto_rides, no_more, is_accepted, stood_before, largest_text}
-use Rattle.dispatch_top.proofs.Fronts.{IsFrontOf, nothing_read, rides_left, front_more, unread_from, onto}
+use Rattle.dispatch_top.specs.Streaming.{AreMore, LineAnswer, LineGiven, RideAnswer, Streamed, accepted_by, asked_by, ending_of_line, ride_group}
+use Rattle.dispatch_top.specs.Streams.{Rides, AtEnd, AtLater, AtBad, StreamEnd, rides_in, rides_of, from_line, onto_rides, no_more, is_accepted}
+use Rattle.dispatch_top.proofs.Accepting.{passes, fails}
+use Rattle.dispatch_top.proofs.Fronts.{IsFrontOf, IsPart, nothing_read, rides_left, front_more, unread_from, onto}
 use Rattle.dispatch_top.proofs.Histories.{AreAnswered, one_more, ride_more, version_more, none_yet, took_nothing, takes_both, walks_least, is_history, with_ride}
-
--- what was read of a stream that is told, and what is unread
-abbrev pub IsPart : ℕ → List Request → List ℕ → Option (List ℕ) → (number room : ℕ) → Type 0
-IsPart nodes rides text None number room = ⊥
-IsPart nodes rides text (Some rest) number room = IsFrontOf nodes rides text rest number room
 
 -- A stream on its way: some rides are answered, their numbers are kept, and the lines that were read go to these rides. Each line
 -- takes room, so the entries stay few.
@@ -57,7 +54,7 @@ pub record IsOnItsWay (g : Roads) (rates : Rates) (vehicles : List Vehicle) (num
 
 -- at the start
 pub first_way : (g : Roads) (rates : Rates) (vehicles : List Vehicle) (numbers : BTreeSet ℕ) (fleet : Cars) (reader : Reader) (text old : Option (List ℕ))
-    → fleet ≡ opening_fleet rates vehicles → numbers.keys ≡ [] → reader ≡ record { pending = []; given = 0; room = largest_text; stopped = None }
+    → fleet ≡ opening_fleet rates vehicles → numbers.keys ≡ [] → reader ≡ record { pending = []; given = 0; room = largest_text; stopped = None; over = false }
     → IsOnItsWay g rates vehicles numbers fleet text (unread reader text) 0 reader.room old old
 first_way g rates vehicles numbers fleet reader text old e n l = record {
   rides = [];
@@ -70,7 +67,7 @@ first_way g rates vehicles numbers fleet reader text old e n l = record {
   part = subst (λ (r : Reader). WhereTold text (λ told. IsPart g.nodes [] told (unread r text) 0 r.room)) (sym l) (at_first text);
 }
   where
-    at_first : (t : Option (List ℕ)) → WhereTold t (λ told. IsPart g.nodes [] told (unread (record { pending = []; given = 0; room = largest_text; stopped = None }) t) 0 largest_text)
+    at_first : (t : Option (List ℕ)) → WhereTold t (λ told. IsPart g.nodes [] told (unread (record { pending = []; given = 0; room = largest_text; stopped = None; over = false }) t) 0 largest_text)
     at_first None = tt
     at_first (Some t) = nothing_read g.nodes t
 
@@ -101,10 +98,6 @@ kept_more numbers more rides r kept m k =
     ∙ ap (λ (b : Bool). list_any (λ (x : Request). x.no.0 == k) rides || b) (sym (or_false (r.no.0 == k)))
     ∙ sym (list_any-append (λ (x : Request). x.no.0 == k) rides (r ∷ []))
 
--- whether a ride is accepted can be told by the numbers that are kept
-accepted_is : (nodes : ℕ) (numbers : BTreeSet ℕ) (rides : List Request) (r : Request) → ((n : ℕ) → contains nat_cmp numbers n ≡ list_any (λ (b : Request). b.no.0 == n) rides) → accepted_by nodes numbers r ≡ is_accepted nodes rides r
-accepted_is nodes numbers rides r kept = ap (λ (b : Bool). is_node nodes r.pickup && is_node nodes r.dropoff && nat_le 1 r.riders && nat_le r.riders 16 && not b) (kept r.no.0)
-
 true_of : (b c : Bool) → (b && c) ≡ true → (b ≡ true) × (c ≡ true)
 true_of true true h = (refl, refl)
 true_of true false h = cc
@@ -113,19 +106,7 @@ true_of false c h = cc
 le_of : (a b : ℕ) → nat_le a b ≡ true → a ≤ b
 le_of a b h = grind (arith, nat_tests)
 
-not_of : (b : Bool) → not b ≡ true → b ≡ false
-not_of true h = cc
-not_of false h = refl
-
--- what a ride that is accepted is
-pub is_fit : (nodes : ℕ) (numbers : BTreeSet ℕ) (r : Request) → accepted_by nodes numbers r ≡ true → r.moment ≤ 2 ^ 40 → IsFit nodes r × (contains nat_cmp numbers r.no.0 ≡ false)
-is_fit nodes numbers r h m =
-    let a = true_of _ _ h in
-    let b = true_of _ _ a.0 in
-    let c = true_of _ _ b.0 in
-    let d = true_of _ _ c.0 in
-    (record { pickup = d.0; dropoff = d.1; some_rider = le_of 1 r.riders c.1; few_riders = le_of r.riders 16 b.1; moment = m }, not_of _ a.1)
-
+-- what a ride that passes the test is
 pub is_a_node : (nodes : ℕ) (g : Roads) (numbers : BTreeSet ℕ) (r : Request) → accepted_by nodes numbers r ≡ true → nodes ≡ g.nodes → ((1 ≤ r.pickup.0) × (r.pickup.0 ≤ g.nodes)) × ((1 ≤ r.dropoff.0) × (r.dropoff.0 ≤ g.nodes)) × (r.riders ≤ 16)
 is_a_node nodes g numbers r h e =
     let a = true_of _ _ h in
@@ -151,24 +132,23 @@ ride_said nodes rides n bytes more r e a = ap (λ (s : Result StreamLine StreamF
     ∙ cond-true (is_accepted nodes rides r) (onto_rides r (rides_in nodes (rides ++ r ∷ []) (n + 1) more)) (no_more AtLater) a
 
 -- what a line asks for says what it says
-pub record AsksRide (nodes : ℕ) (rides : List Request) (numbers : BTreeSet ℕ) (line : Line) (r : Request) : Type 0 where
+pub record AsksRide (nodes : ℕ) (rides : List Request) (line : Line) (r : Request) : Type 0 where
   pub says : stream_line_of line.bytes ≡ Ok (Ride r)
-  pub by_numbers : accepted_by nodes numbers r ≡ true
   pub accepted : is_accepted nodes rides r ≡ true
 
 some_ride : (b : Bool) (r q : Request) → ◌≡◌ {A = Result (Option Request) Ending} (cond b (Ok (Some r)) (Err NotYet)) (Ok (Some q)) → (b ≡ true) × (r ≡ q)
 some_ride true r q e = (refl, cc)
 some_ride false r q e = cc
 
-asks_ride : (nodes : ℕ) (rides : List Request) (numbers : BTreeSet ℕ) (line : Line) (r : Request) → ((n : ℕ) → contains nat_cmp numbers n ≡ list_any (λ (b : Request). b.no.0 == n) rides)
-    → asked_by nodes numbers line.number (stream_line_of line.bytes) ≡ Ok (Some r) → AsksRide nodes rides numbers line r
-asks_ride nodes rides numbers line r kept e = on (stream_line_of line.bytes) refl e
+asks_ride : (nodes : ℕ) (rides : List Request) (numbers : BTreeSet ℕ) (line : Line) (r : Request) → ((n : ℕ) → contains nat_cmp numbers n ≡ list_any (λ (b : Request). b.no.0 == n) rides) → r.moment ≤ 2 ^ 40
+    → asked_by nodes numbers line.number (stream_line_of line.bytes) ≡ Ok (Some r) → AsksRide nodes rides line r
+asks_ride nodes rides numbers line r kept m e = on (stream_line_of line.bytes) refl e
   where
-    on : (said : Result StreamLine StreamFault) → stream_line_of line.bytes ≡ said → asked_by nodes numbers line.number said ≡ Ok (Some r) → AsksRide nodes rides numbers line r
+    on : (said : Result StreamLine StreamFault) → stream_line_of line.bytes ≡ said → asked_by nodes numbers line.number said ≡ Ok (Some r) → AsksRide nodes rides line r
     on (Ok (Ride q)) s e =
         let f = some_ride (accepted_by nodes numbers q) q r e in
         let a : accepted_by nodes numbers r ≡ true = subst (λ (x : Request). accepted_by nodes numbers x ≡ true) f.1 f.0 in
-        record { says = s ∙ ap (λ (x : Request). Ok (Ride x)) f.1; by_numbers = a; accepted = sym (accepted_is nodes numbers rides r kept) ∙ a }
+        record { says = s ∙ ap (λ (x : Request). Ok (Ride x)) f.1; accepted = passes nodes numbers rides r kept m a }
     on (Ok (Move now)) s e = cc
     on (Ok Nothing) s e = cc
     on (Err fault) s e = cc
@@ -216,7 +196,7 @@ asks_end nodes rides numbers line ending kept e = on (stream_line_of line.bytes)
     on : (said : Result StreamLine StreamFault) → stream_line_of line.bytes ≡ said → asked_by nodes numbers line.number said ≡ Err ending → AsksEnd nodes rides line ending
     on (Ok (Ride q)) s e =
         let f = ends_ride (accepted_by nodes numbers q) q ending e in
-        let refused : is_accepted nodes rides q ≡ false = sym (accepted_is nodes numbers rides q kept) ∙ f.0 in
+        let refused : is_accepted nodes rides q ≡ false = fails nodes numbers rides q kept f.0 in
         record {
           ends = λ more. by (Ok (Ride q)) s more ∙ cond-false (is_accepted nodes rides q) (onto_rides q (rides_in nodes (rides ++ q ∷ []) (line.number + 1) more)) (no_more AtLater) refused ∙ ap (λ (x : Ending). no_more (end_by x)) (sym f.1);
           which = inl f.1;
@@ -287,59 +267,50 @@ ends_at_line g rates vehicles numbers fleet text before after number room room' 
     on NoMemory (inr h) q = cc
 
 -- a fault, or no further line
-pub ends_before_line : (g : Roads) (rates : Rates) (vehicles : List Vehicle) (numbers : BTreeSet ℕ) (fleet : Cars) (text : Option (List ℕ)) (reader : Reader) (before left : Option (List ℕ)) (number room : ℕ) (old mid : Option (List ℕ)) (ending : Ending)
-    → AreVehicles g.nodes vehicles → IsOnItsWay g rates vehicles numbers fleet text before number room old mid → LineGiven number room before (Err ending) reader.room (unread reader left) reader.pending
+pub ends_before_line : (g : Roads) (rates : Rates) (vehicles : List Vehicle) (numbers : BTreeSet ℕ) (fleet : Cars) (text : Option (List ℕ)) (was reader : Reader) (had left : Option (List ℕ)) (number : ℕ) (old mid : Option (List ℕ)) (ending : Ending)
+    → AreVehicles g.nodes vehicles → IsOnItsWay g rates vehicles numbers fleet text (unread was had) number was.room old mid → LineGiven number was.room (unread was had) (Err ending) reader.room (unread reader left)
+    → (ending ≡ ReadFault → (told : List ℕ) (given : List (List ℕ)) → AreGiven largest_text told given was had → IsReadWithLines largest_text told given left)
     → Streamed g rates vehicles (WhereTold text) (Err ending) left old mid
-ends_before_line g rates vehicles numbers fleet text reader before left number room old mid ending v w given = on given.0 given.1 given.2 given.3
+ends_before_line g rates vehicles numbers fleet text was reader had left number old mid ending v w given failed = on given.0 given.1 given.2
   where
-    P : Option (List ℕ) → Type 0
-    P x = WhereTold x (λ told. IsPart g.nodes w.rides told before number room)
-
     at : (end : StreamEnd) → WhereTold text (λ told. rides_of g.nodes told ≡ record { rides = w.rides; ends = end }) → EndsAt g rates vehicles end (WhereTold text) old mid
     at end s = record { rides = w.rides; printed = journal_of w.history; said = s; is_history = is_history g rates vehicles w.rides fleet w.history v w.answered; took = w.took }
 
     early : WhereTold text (λ told. (more : List Request) × ((rides_of g.nodes told).rides ≡ w.rides ++ more)) → EndsEarly g rates vehicles (WhereTold text) (Takes old mid)
     early s = record { rides = w.rides; printed = journal_of w.history; said = s; is_history = is_history g rates vehicles w.rides fleet w.history v w.answered; took = w.took }
 
-    stop : (x : Option (List ℕ)) (piece : Piece) (y : Option (List ℕ)) (room' : ℕ) → WhereTold x (λ told. IsPart g.nodes w.rides told y number room) → LineFault
-        → ((rest : List ℕ) → y ≡ Some rest → pieces room rest ≡ piece ∷ []) → ((m : List Piece) → rides_in g.nodes w.rides (number + 1) (piece ∷ m) ≡ no_more (AtBad (number + 1)))
+    stop : (x : Option (List ℕ)) (piece : Piece) (y : Option (List ℕ)) → WhereTold x (λ told. IsPart g.nodes w.rides told y number was.room)
+        → ((rest : List ℕ) → y ≡ Some rest → pieces was.room rest ≡ piece ∷ []) → ((m : List Piece) → rides_in g.nodes w.rides (number + 1) (piece ∷ m) ≡ no_more (AtBad (number + 1)))
         → WhereTold x (λ told. rides_of g.nodes told ≡ record { rides = w.rides; ends = AtBad (number + 1) })
-    stop None piece y room' p which h b = tt
-    stop (Some told) piece None room' p which h b = absurd p
-    stop (Some told) piece (Some rest) room' p which h b =
-        rides_left g.nodes w.rides told rest number room p ∙ ap (λ (l : List Piece). onto w.rides (rides_in g.nodes w.rides (number + 1) l)) (h rest refl) ∙ ap (onto w.rides) (b []) ∙ end_of w.rides (AtBad (number + 1))
+    stop None piece y p h b = tt
+    stop (Some told) piece None p h b = absurd p
+    stop (Some told) piece (Some rest) p h b =
+        rides_left g.nodes w.rides told rest number was.room p ∙ ap (λ (l : List Piece). onto w.rides (rides_in g.nodes w.rides (number + 1) l)) (h rest refl) ∙ ap (onto w.rides) (b []) ∙ end_of w.rides (AtBad (number + 1))
 
-    some_more : (x : Option (List ℕ)) (y : Option (List ℕ)) → WhereTold x (λ told. IsPart g.nodes w.rides told y number room) → WhereTold x (λ told. (more : List Request) × ((rides_of g.nodes told).rides ≡ w.rides ++ more))
+    some_more : (x : Option (List ℕ)) (y : Option (List ℕ)) → WhereTold x (λ told. IsPart g.nodes w.rides told y number was.room) → WhereTold x (λ told. (more : List Request) × ((rides_of g.nodes told).rides ≡ w.rides ++ more))
     some_more None y p = tt
     some_more (Some told) None p = absurd p
-    some_more (Some told) (Some rest) p = ((rides_in g.nodes w.rides (number + 1) (pieces room rest)).rides, ap (λ (r : Rides). r.rides) (rides_left g.nodes w.rides told rest number room p))
+    some_more (Some told) (Some rest) p = ((rides_in g.nodes w.rides (number + 1) (pieces was.room rest)).rides, ap (λ (r : Rides). r.rides) (rides_left g.nodes w.rides told rest number was.room p))
 
-    split : (l : Option (List ℕ)) (told rest : List ℕ) → unread reader l ≡ Some rest → IsFrontOf g.nodes w.rides told rest number room → position is_line_end reader.pending ≡ None → length reader.pending ≤ longest_line
-        → (r : IsReadTo largest_text told l) × (rides_in g.nodes [] 1 (map Whole (ended_lines r.read)) ≡ record { rides = w.rides; ends = AtEnd })
-    split None told rest e f h short = cc
-    split (Some l) told rest e f h short = let same : rest ≡ reader.pending ++ l = cc in unread_from g.nodes w.rides told rest reader.pending l (Some l) number room f same refl h short
-
-    unread_said : (x y : Option (List ℕ)) → WhereTold x (λ told. IsPart g.nodes w.rides told y number room) → Tells room y (Err Fault) reader.room (unread reader left) → position is_line_end reader.pending ≡ None → length reader.pending ≤ longest_line
+    unread_said : ending ≡ ReadFault → (x : Option (List ℕ)) → WhereTold x (λ told. IsPart g.nodes w.rides told (unread was had) number was.room)
         → WhereTold x (λ told. (r : IsReadTo largest_text told left) × (rides_in g.nodes [] 1 (map Whole (ended_lines r.read)) ≡ record { rides = w.rides; ends = AtEnd }))
-    unread_said None y p t h short = tt
-    unread_said (Some told) None p t h short = absurd p
-    unread_said (Some told) (Some rest) p t h short = split left told rest t p h short
+    unread_said e None p = tt
+    unread_said e (Some told) p = unread_from g.nodes w.rides told was.pending had left number was.room p (failed e told)
 
-    long : (y : Option (List ℕ)) (rest : List ℕ) → Tells room y (Err Long) reader.room (unread reader left) → y ≡ Some rest → pieces room rest ≡ TooLong ∷ []
+    long : (y : Option (List ℕ)) (rest : List ℕ) → Tells was.room y (Err Long) reader.room (unread reader left) → y ≡ Some rest → pieces was.room rest ≡ TooLong ∷ []
     long None rest t e = cc
-    long (Some r) rest t e = let q : r ≡ rest = cc in ap (pieces room) (sym q) ∙ t.0
+    long (Some r) rest t e = let q : r ≡ rest = cc in ap (pieces was.room) (sym q) ∙ t.0
 
-    large : (y : Option (List ℕ)) (rest : List ℕ) → Tells room y (Err Large) reader.room (unread reader left) → y ≡ Some rest → pieces room rest ≡ TooLarge ∷ []
+    large : (y : Option (List ℕ)) (rest : List ℕ) → Tells was.room y (Err Large) reader.room (unread reader left) → y ≡ Some rest → pieces was.room rest ≡ TooLarge ∷ []
     large None rest t e = cc
-    large (Some r) rest t e = let q : r ≡ rest = cc in ap (pieces room) (sym q) ∙ t.0
+    large (Some r) rest t e = let q : r ≡ rest = cc in ap (pieces was.room) (sym q) ∙ t.0
 
-    on : (fault : LineFault) → ending ≡ ending_of_line (number + 1) fault → Tells room before (Err fault) reader.room (unread reader left) → (fault ≡ Fault → (position is_line_end reader.pending ≡ None) × (length reader.pending ≤ longest_line))
-        → Streamed g rates vehicles (WhereTold text) (Err ending) left old mid
-    on Fault e t h = subst (λ (x : Ending). Streamed g rates vehicles (WhereTold text) (Err x) left old mid) (sym e)
-        (record { rides = w.rides; printed = journal_of w.history; said = unread_said text before w.part t (h refl).0 (h refl).1; is_history = is_history g rates vehicles w.rides fleet w.history v w.answered; took = w.took })
-    on Long e t h = subst (λ (x : Ending). Streamed g rates vehicles (WhereTold text) (Err x) left old mid) (sym e) (at (AtBad (number + 1)) (stop text TooLong before 0 w.part Long (λ rest q. long before rest t q) (λ m. refl)))
-    on Large e t h = subst (λ (x : Ending). Streamed g rates vehicles (WhereTold text) (Err x) left old mid) (sym e) (at (AtBad (number + 1)) (stop text TooLarge before 0 w.part Large (λ rest q. large before rest t q) (λ m. refl)))
-    on LineNoMemory e t h = subst (λ (x : Ending). Streamed g rates vehicles (WhereTold text) (Err x) left old mid) (sym e) (early (some_more text before w.part))
+    on : (fault : LineFault) → ending ≡ ending_of_line (number + 1) fault → Tells was.room (unread was had) (Err fault) reader.room (unread reader left) → Streamed g rates vehicles (WhereTold text) (Err ending) left old mid
+    on Fault e t = subst (λ (x : Ending). Streamed g rates vehicles (WhereTold text) (Err x) left old mid) (sym e)
+        (record { rides = w.rides; printed = journal_of w.history; said = unread_said e text w.part; is_history = is_history g rates vehicles w.rides fleet w.history v w.answered; took = w.took })
+    on Long e t = subst (λ (x : Ending). Streamed g rates vehicles (WhereTold text) (Err x) left old mid) (sym e) (at (AtBad (number + 1)) (stop text TooLong (unread was had) w.part (λ rest q. long (unread was had) rest t q) (λ m. refl)))
+    on Large e t = subst (λ (x : Ending). Streamed g rates vehicles (WhereTold text) (Err x) left old mid) (sym e) (at (AtBad (number + 1)) (stop text TooLarge (unread was had) w.part (λ rest q. large (unread was had) rest t q) (λ m. refl)))
+    on LineNoMemory e t = subst (λ (x : Ending). Streamed g rates vehicles (WhereTold text) (Err x) left old mid) (sym e) (early (some_more text (unread was had) w.part))
 
 nothing_left : (pending : List ℕ) (left : Option (List ℕ)) (reader : Reader) → reader.pending ≡ pending → unread reader left ≡ Some [] → left ≡ Some []
 nothing_left pending None reader e h = cc
@@ -405,15 +376,13 @@ has_answered g rates vehicles numbers more fleet next text before line number ro
       goes = λ m. nothing_said g.nodes w.rides (number + 1) line.bytes m (asks_nothing g.nodes numbers line e) ∙ ap (λ (k : ℕ). rides_in g.nodes w.rides k m) two ∙ ap (λ (l : List Request). rides_in g.nodes l (number + 2) m) (sym (append-nil w.rides));
     }
     on (Ok (Some r)) e x =
-        let asks = asks_ride g.nodes w.rides numbers line r w.kept e in
-        let f = is_fit g.nodes numbers r asks.by_numbers (moments r e) in
-        let fresh : stood_before w.rides r ≡ false = sym (w.kept r.no.0) ∙ f.1 in
+        let asks = asks_ride g.nodes w.rides numbers line r w.kept (moments r e) e in
         let d = x.1.decides in
         let v : next.version ≡ fleet.version + 2 = version_more g fleet next r x.1.decision d in
         record {
           others = r ∷ [];
           extended = with_ride w.history r x.1.decision;
-          answered = one_more g rates vehicles w.rides fleet next r w.history x.1.decision w.answered f.0 fresh d;
+          answered = one_more g rates vehicles w.rides fleet next r w.history x.1.decision w.answered asks.accepted d;
           took = subst (Takes old new) (sym (ride_more w.history r x.1.decision)) (takes_both old mid new (journal_of w.history) (ride_group r x.1.decision) w.took x.1.took);
           kept = kept_more numbers more w.rides r w.kept (x.0 refl);
           few = omega arith;
@@ -421,13 +390,14 @@ has_answered g rates vehicles numbers more fleet next text before line number ro
         }
 
 -- a line that was answered and ended: the stream goes on
-pub further : (g : Roads) (rates : Rates) (vehicles : List Vehicle) (numbers more : BTreeSet ℕ) (fleet next : Cars) (text before after : Option (List ℕ)) (line : Line) (number room room' : ℕ) (old mid new : Option (List ℕ))
-    → IsOnItsWay g rates vehicles numbers fleet text before number room old mid → Tells room before (Ok (Some line)) room' after → line.number ≡ number + 1 → room' < room → line.ended ≡ true
+pub further : (g : Roads) (rates : Rates) (vehicles : List Vehicle) (numbers more : BTreeSet ℕ) (fleet next : Cars) (text : Option (List ℕ)) (was reader : Reader) (had left : Option (List ℕ)) (line : Line) (number : ℕ) (old mid new : Option (List ℕ))
+    → IsOnItsWay g rates vehicles numbers fleet text (unread was had) number was.room old mid → line.number ≡ number + 1 → reader.room < was.room
+    → ((told : List ℕ) (given : List (List ℕ)) → AreGiven largest_text told given was had → AreGiven largest_text told (given ++ line.bytes ∷ []) reader left)
     → LineAnswer g numbers fleet (asked_by g.nodes numbers line.number (stream_line_of line.bytes)) (Ok tt) more next mid new
     → ((r : Request) → asked_by g.nodes numbers line.number (stream_line_of line.bytes) ≡ Ok (Some r) → r.moment ≤ 2 ^ 40)
-    → IsOnItsWay g rates vehicles more next text after line.number room' old new
-further g rates vehicles numbers more fleet next text before after line number room room' old mid new w t c falls ended a moments =
-    let h = has_answered g rates vehicles numbers more fleet next text before line number room old mid new w c a moments in
+    → IsOnItsWay g rates vehicles more next text (unread reader left) line.number reader.room old new
+further g rates vehicles numbers more fleet next text was reader had left line number old mid new w c falls gives a moments =
+    let h = has_answered g rates vehicles numbers more fleet next text (unread was had) line number was.room old mid new w c a moments in
     let few0 = w.few in
     let few1 = h.few in
     let few2 = w.few_lines in
@@ -443,13 +413,12 @@ further g rates vehicles numbers more fleet next text before after line number r
     }
   where
     on : (others : List Request) → ((m : List Piece) → rides_in g.nodes w.rides (number + 1) (Whole line.bytes ∷ m) ≡ onto others (rides_in g.nodes (w.rides ++ others) (number + 2) m))
-        → (x : Option (List ℕ)) → WhereTold x (λ told. IsPart g.nodes w.rides told before number room) → WhereTold x (λ told. IsPart g.nodes (w.rides ++ others) told after line.number room')
+        → (x : Option (List ℕ)) → WhereTold x (λ told. IsPart g.nodes w.rides told (unread was had) number was.room) → WhereTold x (λ told. IsPart g.nodes (w.rides ++ others) told (unread reader left) line.number reader.room)
     on others goes None p = tt
     on others goes (Some told) p =
-        let n = is_next g.nodes w.rides told line before after number room room' p t in
         let said : rides_in g.nodes w.rides (number + 1) (Whole line.bytes ∷ []) ≡ record { rides = others; ends = AtEnd } = goes [] ∙ ap (λ (l : List Request). record { rides = l; ends = AtEnd }) (append-nil others) in
-        let f = front_more g.nodes w.rides others told n.rest line.bytes number room room' n.front (sym n.ended_is ∙ ended) n.in_pieces said in
-        subst (λ (o : Option (List ℕ)). IsPart g.nodes (w.rides ++ others) told o line.number room') (sym n.after_is) (subst (λ (k : ℕ). IsFrontOf g.nodes (w.rides ++ others) told (after_line n.rest) k room') (sym c) f)
+        subst (λ (k : ℕ). IsPart g.nodes (w.rides ++ others) told (unread reader left) k reader.room) (sym c)
+        (front_more g.nodes w.rides others told line.bytes was.pending reader.pending had left number was.room reader.room p (gives told) said)
 
 -- a last line that wasn't ended was answered
 pub ends_with_line : (g : Roads) (rates : Rates) (vehicles : List Vehicle) (numbers more : BTreeSet ℕ) (fleet next : Cars) (text before left : Option (List ℕ)) (reader : Reader) (line : Line) (number room : ℕ) (old mid new : Option (List ℕ))
@@ -518,14 +487,12 @@ ends_in_ride g rates vehicles numbers more fleet next text before after left lin
 
     ride : (r : Request) → asked_by g.nodes numbers line.number (stream_line_of line.bytes) ≡ Ok (Some r) → (e : Ending) → RideAnswer g fleet r (Err e) next mid new → Streamed g rates vehicles (WhereTold text) (Err e) left old new
     ride r q WriteFault x =
-        let asks = asks_ride g.nodes w.rides numbers line r w.kept q in
-        let f = is_fit g.nodes numbers r asks.by_numbers (moments r q) in
-        let fresh : stood_before w.rides r ≡ false = sym (w.kept r.no.0) ∙ f.1 in
+        let asks = asks_ride g.nodes w.rides numbers line r w.kept (moments r q) q in
         record {
           rides = w.rides ++ r ∷ [];
           printed = journal_of (with_ride w.history r x.decision);
           said = told_more (r ∷ []) (λ m. ((rides_in g.nodes (w.rides ++ r ∷ []) (number + 1 + 1) m).rides, ap (λ (l : Rides). l.rides) (ride_said g.nodes w.rides (number + 1) line.bytes m r asks.says asks.accepted))) text w.part;
-          is_history = is_history g rates vehicles (w.rides ++ r ∷ []) next (with_ride w.history r x.decision) v (one_more g rates vehicles w.rides fleet next r w.history x.decision w.answered f.0 fresh x.decides);
+          is_history = is_history g rates vehicles (w.rides ++ r ∷ []) next (with_ride w.history r x.decision) v (one_more g rates vehicles w.rides fleet next r w.history x.decision w.answered asks.accepted x.decides);
           took = subst (TakesPrefix old new) (sym (ride_more w.history r x.decision)) (takes_prefix old mid new (journal_of w.history) (ride_group r x.decision) w.took x.took);
         }
     ride r q NoMemory x = record {
@@ -555,7 +522,7 @@ ends_in_ride g rates vehicles numbers more fleet next text before after left lin
 
 -- the schedules have least walks all along
 pub still_least : (g : Roads) (rates : Rates) (vehicles : List Vehicle) (numbers : BTreeSet ℕ) (fleet : Cars) (text before : Option (List ℕ)) (number room : ℕ) (old mid : Option (List ℕ))
-    → AreVehicles g.nodes vehicles → IsOnItsWay g rates vehicles numbers fleet text before number room old mid → HaveLeastWalks g fleet.cars
+    → AreVehicles g.nodes vehicles → IsOnItsWay g rates vehicles numbers fleet text before number room old mid → AllHaveLeastWalks g fleet
 still_least g rates vehicles numbers fleet text before number room old mid v w = walks_least g rates vehicles w.rides fleet w.history v w.answered
 
 -- memory was wanted before anything was read

@@ -1,4 +1,4 @@
-use Rattle.std.proofs.Common.{◌≡◌, ℕ, ◌+◌, ◌<◌, ◌≤◌, ◌==◌, List, [], ◌∷◌, ◌++◌, length, Option, Some, None, Bool, true, false, cond, refl, subst, rules, MatchOption}
+use Rattle.std.proofs.Common.{◌≡◌, ℕ, ◌+◌, ◌<◌, ◌≤◌, ◌==◌, List, [], ◌∷◌, ◌++◌, length, Option, Some, None, cond, refl, subst, sym, rules, MatchOption}
 use Rattle.std.specs.Prelude.{option_to_list, nat_lt, IsSome}
 use Rattle.road_graph.specs.declared.road.NodeNo.{NodeNo}
 use Rattle.road_graph.specs.Paths.{Path}
@@ -11,7 +11,8 @@ use Rattle.stop_schedule.specs.declared.stop.Stop.{Stop}
 use Rattle.stop_schedule.specs.Lists.{node_at, changed_ends}
 use Rattle.insertion_cost.specs.Distances.{AreDistances, AreLeastWalks}
 use Rattle.dispatch_top.specs.Deciding.{HaveDistances}
-use Rattle.dispatch_top.proofs.Spanning.{ends_with, same_test, apart_test, follows_test, ends_test, no_first, no_later, no_way_on, no_way_in, no_way_out}
+use Rattle.dispatch_top.proofs.Legs.{ends_behind, ends_together, ends_apart, one_behind, none_behind}
+use Rattle.dispatch_top.proofs.Spanning.{no_first, no_later, no_way_on, no_way_in, no_way_out}
 
 -- a walk is found where there is one
 pub found_to : (g : Roads) (n m v : NodeNo) (o : Option Path) → n ≡ m → (NoWalk g m v → ⊥) → MatchOption o (NoWalk g n v) (IsLeastWalk g n v) → IsSome o
@@ -44,11 +45,6 @@ pub far_is : (g : Roads) (u v : NodeNo) (o : Option ℕ) (x : ℕ) → o ≡ Som
 far_is g u v None x is h = cc
 far_is g u v (Some y) x is h = let same : y ≡ x = cc in subst (λ (z : ℕ). IsDist g u v z) same h
 
--- where pickup and dropoff are neighbours there is a walk between them
-no_direct_leg : (g : Roads) (together follows : Bool) (a b c d e : NodeNo × NodeNo) → together ≡ true → NoWalk g b.0 b.1 → (lengths : List ℕ) → AreDistances g (ends_with together follows a b c d e) lengths → ⊥
-no_direct_leg g true follows a b c d e is lacks = no_later g a (b ∷ cond follows (e ∷ []) []) (no_first g b (cond follows (e ∷ []) []) lacks)
-no_direct_leg g false follows a b c d e is lacks = cc
-
 -- each changed leg has a walk
 pub way_begins : (g : Roads) (stops : List Stop) (front : Front) (r : Request) (at : Insertion) → HaveDistances g (changed_ends stops front r at) → NoWalk g (node_at front stops at.i) r.pickup → ⊥
 way_begins g stops front r at h lacks =
@@ -57,7 +53,8 @@ way_begins g stops front r at h lacks =
 
 pub way_between : (g : Roads) (stops : List Stop) (front : Front) (r : Request) (at : Insertion) → HaveDistances g (changed_ends stops front r at) → at.i ≡ at.j → NoWalk g r.pickup r.dropoff → ⊥
 way_between g stops front r at h same lacks =
-    no_direct_leg g (at.i == at.j) (nat_lt at.j (length stops)) (node_at front stops at.i, r.pickup) (r.pickup, r.dropoff) (r.pickup, node_at front stops (at.i + 1)) (node_at front stops at.j, r.dropoff) (r.dropoff, node_at front stops (at.j + 1)) (same_test at.i at.j same) lacks h.lengths h.are
+    no_later g (node_at front stops at.i, r.pickup) ((r.pickup, r.dropoff) ∷ ends_behind stops front r at) (no_first g (r.pickup, r.dropoff) (ends_behind stops front r at) lacks) h.lengths
+    (subst (λ (ends : List (NodeNo × NodeNo)). AreDistances g ends h.lengths) (ends_together stops front r at same) h.are)
 
 pub way_on : (g : Roads) (stops : List Stop) (front : Front) (r : Request) (at : Insertion) → HaveDistances g (changed_ends stops front r at) → (at.i ≡ at.j → ⊥) → NoWalk g r.pickup (node_at front stops (at.i + 1)) → ⊥
 way_on g stops front r at h apart lacks = no_way_on g stops front r at apart lacks h.lengths h.are
@@ -68,53 +65,24 @@ way_in g stops front r at h apart lacks = no_way_in g stops front r at apart lac
 pub way_out : (g : Roads) (stops : List Stop) (front : Front) (r : Request) (at : Insertion) → HaveDistances g (changed_ends stops front r at) → at.j < length stops → NoWalk g r.dropoff (node_at front stops (at.j + 1)) → ⊥
 way_out g stops front r at h follows lacks = no_way_out g stops front r at follows lacks h.lengths h.are
 
--- the walk of the pair behind the dropoff, where there is one
-abbrev pub IsLedOut : Roads → Bool → NodeNo × NodeNo → Option Path → Type 0
-IsLedOut g true e None = ⊥
-IsLedOut g true e (Some w) = IsLeastWalk g e.0 e.1 w
-IsLedOut g false e None = Unit {0}
-IsLedOut g false e (Some w) = ⊥
-
-led_some : (g : Roads) (follows : Bool) (e : NodeNo × NodeNo) (w : Path) → follows ≡ true → IsLeastWalk g e.0 e.1 w → IsLedOut g follows e (Some w)
-led_some g true e w is l = l
-led_some g false e w is l = cc
-
-led_none : (g : Roads) (follows : Bool) (e : NodeNo × NodeNo) → follows ≡ false → IsLedOut g follows e None
-led_none g true e is = cc
-led_none g false e is = tt
-
-led_last : (g : Roads) (follows : Bool) (e : NodeNo × NodeNo) (o : Option Path) → IsLedOut g follows e o → AreLeastWalks g (cond follows (e ∷ []) []) (option_to_list o)
-led_last g true e None l = l
-led_last g true e (Some w) l = (l, refl)
-led_last g false e None l = refl
-led_last g false e (Some w) l = absurd l
-
-walks_with : (g : Roads) (together follows : Bool) (a b c d e : NodeNo × NodeNo) (x y : Path) (o : Option Path) → together ≡ true
-    → IsLeastWalk g a.0 a.1 x → IsLeastWalk g b.0 b.1 y → IsLedOut g follows e o → AreLeastWalks g (ends_with together follows a b c d e) (x ∷ y ∷ option_to_list o)
-walks_with g true follows a b c d e x y o is first middle out = (first, (middle, led_last g follows e o out))
-walks_with g false follows a b c d e x y o is first middle out = cc
-
-walks_without : (g : Roads) (together follows : Bool) (a b c d e : NodeNo × NodeNo) (x y z : Path) (o : Option Path) → together ≡ false
-    → IsLeastWalk g a.0 a.1 x → IsLeastWalk g c.0 c.1 y → IsLeastWalk g d.0 d.1 z → IsLedOut g follows e o → AreLeastWalks g (ends_with together follows a b c d e) (x ∷ y ∷ z ∷ option_to_list o)
-walks_without g true follows a b c d e x y z o is first second third out = cc
-walks_without g false follows a b c d e x y z o is first second third out = (first, (second, (third, led_last g follows e o out)))
-
+-- the walk behind the dropoff, where a stop follows
 abbrev pub LeadsOut : Roads → List Stop → Front → Request → Insertion → Option Path → Type 0
-LeadsOut g stops front r at o = IsLedOut g (nat_lt at.j (length stops)) (r.dropoff, node_at front stops (at.j + 1)) o
+LeadsOut g stops front r at o = AreLeastWalks g (ends_behind stops front r at) (option_to_list o)
 
 pub leads_out : (g : Roads) (stops : List Stop) (front : Front) (r : Request) (at : Insertion) (w : Path) → at.j < length stops → IsLeastWalk g r.dropoff (node_at front stops (at.j + 1)) w → LeadsOut g stops front r at (Some w)
-leads_out g stops front r at w follows l = led_some g (nat_lt at.j (length stops)) (r.dropoff, node_at front stops (at.j + 1)) w (follows_test at.j (length stops) follows) l
+leads_out g stops front r at w follows l = subst (λ (ends : List (NodeNo × NodeNo)). AreLeastWalks g ends (w ∷ [])) (sym (one_behind stops front r at follows)) (l, refl)
 
 pub leads_nowhere : (g : Roads) (stops : List Stop) (front : Front) (r : Request) (at : Insertion) → length stops ≤ at.j → LeadsOut g stops front r at None
-leads_nowhere g stops front r at last = led_none g (nat_lt at.j (length stops)) (r.dropoff, node_at front stops (at.j + 1)) (ends_test at.j (length stops) last)
+leads_nowhere g stops front r at last = subst (λ (ends : List (NodeNo × NodeNo)). AreLeastWalks g ends []) (sym (none_behind stops front r at last)) refl
 
 -- the walks where pickup and dropoff are neighbours
 pub walks_together : (g : Roads) (stops : List Stop) (front : Front) (r : Request) (at : Insertion) (x y : Path) (o : Option Path) → at.i ≡ at.j
     → IsLeastWalk g (node_at front stops at.i) r.pickup x → IsLeastWalk g r.pickup r.dropoff y → LeadsOut g stops front r at o → AreLeastWalks g (changed_ends stops front r at) (x ∷ y ∷ option_to_list o)
-walks_together g stops front r at x y o together = walks_with g (at.i == at.j) (nat_lt at.j (length stops)) (node_at front stops at.i, r.pickup) (r.pickup, r.dropoff) (r.pickup, node_at front stops (at.i + 1)) (node_at front stops at.j, r.dropoff) (r.dropoff, node_at front stops (at.j + 1)) x y o (same_test at.i at.j together)
+walks_together g stops front r at x y o same first middle out = subst (λ (ends : List (NodeNo × NodeNo)). AreLeastWalks g ends (x ∷ y ∷ option_to_list o)) (sym (ends_together stops front r at same)) (first, (middle, out))
 
 -- and where they are apart
 pub walks_apart : (g : Roads) (stops : List Stop) (front : Front) (r : Request) (at : Insertion) (x y z : Path) (o : Option Path) → (at.i ≡ at.j → ⊥)
     → IsLeastWalk g (node_at front stops at.i) r.pickup x → IsLeastWalk g r.pickup (node_at front stops (at.i + 1)) y → IsLeastWalk g (node_at front stops at.j) r.dropoff z → LeadsOut g stops front r at o
     → AreLeastWalks g (changed_ends stops front r at) (x ∷ y ∷ z ∷ option_to_list o)
-walks_apart g stops front r at x y z o apart = walks_without g (at.i == at.j) (nat_lt at.j (length stops)) (node_at front stops at.i, r.pickup) (r.pickup, r.dropoff) (r.pickup, node_at front stops (at.i + 1)) (node_at front stops at.j, r.dropoff) (r.dropoff, node_at front stops (at.j + 1)) x y z o (apart_test at.i at.j apart)
+walks_apart g stops front r at x y z o apart first second third out =
+    subst (λ (ends : List (NodeNo × NodeNo)). AreLeastWalks g ends (x ∷ y ∷ z ∷ option_to_list o)) (sym (ends_apart stops front r at apart)) (first, (second, (third, out)))

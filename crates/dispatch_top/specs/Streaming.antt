@@ -1,8 +1,7 @@
-use Rattle.std.specs.Prelude.{◌≡◌, ℕ, ◌+◌, ◌++◌, ◌||◌, ◌&&◌, ◌==◌, ◌≤◌, nat_le, not, Bool, true, cond, List, position, Option, Some, None, Result, Ok, Err, slice_get, length, []}
+use Rattle.std.specs.Prelude.{◌≡◌, ℕ, ◌+◌, ◌++◌, ◌||◌, ◌&&◌, ◌==◌, nat_le, not, Bool, cond, List, Option, Some, None, Result, Ok, Err, []}
 use Rattle.std.specs.BTreeSet.{BTreeSet, contains}
 use Rattle.std.specs.Ordering.{nat_cmp}
 use Rattle.ride_base.specs.Outside.{Takes, TakesPrefix}
-use Rattle.ride_base.specs.Pieces.{is_line_end, longest_line}
 use Rattle.ride_base.specs.Reading.{Tells}
 use Rattle.ride_base.specs.declared.lines.Line.{Line}
 use Rattle.ride_base.specs.declared.lines.LineFault.{LineFault}
@@ -10,8 +9,7 @@ use Rattle.ride_base.specs.declared.lines.LineFault.TheVariants.{Fault, Long, La
 use Rattle.road_graph.specs.Roads.{Roads, is_node}
 use Rattle.stop_schedule.specs.declared.request.Request.{Request}
 use Rattle.stop_schedule.specs.declared.vehicle.Vehicle.{Vehicle}
-use Rattle.stop_schedule.specs.Fleets.{Car, Cars}
-use Rattle.stop_schedule.specs.Keeping.{HasLeastWalks}
+use Rattle.stop_schedule.specs.Fleets.{Cars}
 use Rattle.stop_schedule.specs.Rates.{Rates}
 use Rattle.input_tables.specs.declared.lines.StreamLine.{StreamLine}
 use Rattle.input_tables.specs.declared.lines.StreamLine.TheVariants.{Ride, Move, Nothing}
@@ -31,18 +29,6 @@ use Rattle.dispatch_top.specs.Streams.{AtEnd, AtLater, AtBad}
 -- the fleet with one entry more
 abbrev pub counted : Cars → Cars
 counted fleet = record fleet { version = fleet.version + 1 }
-
--- each leg of each schedule is a least walk
-abbrev pub HaveLeastWalks : Roads → List Car → Type 0
-HaveLeastWalks g cars = (place : ℕ) (car : Car) → slice_get cars place ≡ Some car → HasLeastWalks g car.plan
-
--- a ride that an open board accepts, but for its number
-pub record IsFit (nodes : ℕ) (r : Request) : Type 0 where
-  pub pickup : is_node nodes r.pickup ≡ true
-  pub dropoff : is_node nodes r.dropoff ≡ true
-  pub some_rider : 1 ≤ r.riders
-  pub few_riders : r.riders ≤ 16
-  pub moment : r.moment ≤ 1099511627776
 
 -- the numbers with one more
 abbrev pub AreMore : BTreeSet ℕ → ℕ → BTreeSet ℕ → Type 0
@@ -69,7 +55,7 @@ RideAnswer g old r (Err (FleetText row)) new taken took = ⊥
 RideAnswer g old r (Err (StreamText line)) new taken took = ⊥
 RideAnswer g old r (Err ReadFault) new taken took = ⊥
 
--- a ride that an open board at the clock 0 accepts, where the numbers of earlier ones are these
+-- what is tested of a ride, where the numbers of earlier ones are these: it is between nodes, of 1 to 16 riders, and has a new number
 abbrev pub accepted_by : (nodes : ℕ) → BTreeSet ℕ → Request → Bool
 accepted_by nodes numbers r = is_node nodes r.pickup && is_node nodes r.dropoff && nat_le 1 r.riders && nat_le r.riders 16 && not (contains nat_cmp numbers r.no.0)
 
@@ -93,12 +79,10 @@ ending_of_line line Long = StreamText line
 ending_of_line line Large = StreamText line
 ending_of_line line LineNoMemory = NoMemory
 
--- What an answer for the line after so many says of the text that was not given before, and then isn't given. Where the shelf failed, the
--- bytes that were read and not given have no line end, and are no more than a line may have.
-abbrev pub LineGiven : (number room : ℕ) → Option (List ℕ) → Result (Option Line) Ending → (room' : ℕ) → Option (List ℕ) → (pending : List ℕ) → Type 0
-LineGiven number room before (Ok line) room' after pending = Tells room before (Ok line) room' after
-LineGiven number room before (Err ending) room' after pending =
-    (fault : LineFault) × (ending ≡ ending_of_line (number + 1) fault) × Tells room before (Err fault) room' after × (fault ≡ Fault → (position is_line_end pending ≡ None) × (length pending ≤ longest_line))
+-- what an answer for the line after so many says of the text that was not given before, and then isn't given
+abbrev pub LineGiven : (number room : ℕ) → Option (List ℕ) → Result (Option Line) Ending → (room' : ℕ) → Option (List ℕ) → Type 0
+LineGiven number room before (Ok line) room' after = Tells room before (Ok line) room' after
+LineGiven number room before (Err ending) room' after = (fault : LineFault) × (ending ≡ ending_of_line (number + 1) fault) × Tells room before (Err fault) room' after
 
 -- how the answers to a stream end
 abbrev pub Streamed : Roads → Rates → List Vehicle → (Says : (List ℕ → Type 0) → Type 0) → Result (Unit {0}) Ending → (left old new : Option (List ℕ)) → Type 0

@@ -1,27 +1,28 @@
-use Rattle.std.specs.Prelude.{◌≡◌, ℕ, ◌+◌, ◌==◌, ◌&&◌, ◌++◌, nat_le, not, Bool, cond, List, [], ◌∷◌, Result, Ok, Err, codes, refl}
-use Rattle.std.specs.List.{list_any}
-use Rattle.ride_base.specs.Pieces.{Piece, Whole, TooLong, TooLarge, pieces}
-use Rattle.road_graph.specs.Roads.{is_node}
+use Rattle.std.specs.Prelude.{◌≡◌, ℕ, ◌+◌, ◌++◌, Bool, cond, List, [], ◌∷◌, map, None, is_none, Result, Ok, Err, codes, refl}
+use Rattle.ride_base.specs.Pieces.{Piece, Whole, TooLong, TooLarge, pieces, largest_text}
 use Rattle.stop_schedule.specs.declared.request.Request.{Request}
+use Rattle.stop_schedule.specs.Rates.{usual}
 use Rattle.stop_schedule.specs.Samples.{ride}
 use Rattle.input_tables.specs.declared.faults.StreamFault.{StreamFault}
 use Rattle.input_tables.specs.declared.lines.StreamLine.{StreamLine}
 use Rattle.input_tables.specs.declared.lines.StreamLine.TheVariants.{Ride, Move, Nothing}
 use Rattle.input_tables.specs.Streams.{stream_line_of}
+use Rattle.board_core.specs.Boards.{Board, Waiting, opening_board}
+use Rattle.board_core.specs.Steps.{refusal}
 
 -- What a stream says: the rides that are answered, and how far they go.
 
-abbrev pub largest_text : ℕ
-largest_text = 1073741824
+-- a ride that waits, and that no desk holds
+abbrev pub as_waiting : Request → Waiting
+as_waiting r = record { request = r; holder = None }
 
--- the number stood in an earlier ride
-abbrev pub stood_before : List Request → Request → Bool
-stood_before before r = list_any (λ (b : Request). b.no.0 == r.no.0) before
+-- an open board at the clock 0, of so many nodes, which accepted these rides
+abbrev pub board_behind : (nodes : ℕ) → List Request → Board
+board_behind nodes before = record (opening_board nodes usual []) { waiting = map as_waiting before }
 
--- a ride that an open board at the clock 0 accepts behind earlier ones: between nodes of the graph, of 1 to 16 riders, with a new number.
--- No moment of a stream's line is too late for a board.
+-- such a board has no reason to refuse the ride
 abbrev pub is_accepted : (nodes : ℕ) → List Request → Request → Bool
-is_accepted nodes before r = is_node nodes r.pickup && is_node nodes r.dropoff && nat_le 1 r.riders && nat_le r.riders 16 && not (stood_before before r)
+is_accepted nodes before r = is_none (refusal (board_behind nodes before) r)
 
 -- where the rides end that are answered
 pub data StreamEnd : Type 0 where
@@ -69,6 +70,16 @@ two_rides = refl
 -- a number that came before, a move of the clock and a line that is none end the rides
 repeated : rides_of 4 (line_of (codes "r 1 2 4 0 1") ++ codes "r 1 3 4 0 1") ≡ record { rides = ride 1 2 4 0 1 ∷ []; ends = AtLater }
 repeated = refl
+
+-- a board takes 1 to 16 riders, between its nodes
+full_group : rides_of 4 (codes "r 1 2 4 0 16") ≡ record { rides = ride 1 2 4 0 16 ∷ []; ends = AtEnd }
+full_group = refl
+
+too_many_riders : rides_of 4 (codes "r 1 2 4 0 17") ≡ no_more AtLater
+too_many_riders = refl
+
+behind_the_last_node : rides_of 4 (codes "r 1 2 5 0 1") ≡ no_more AtLater
+behind_the_last_node = refl
 
 moved : rides_of 4 (line_of (codes "t 5") ++ codes "q") ≡ no_more AtLater
 moved = refl

@@ -55,7 +55,8 @@ fn changed_walks<L>(
     requires within { at.j ≤ length stops.now }
     requires ways { AreWaysOf graph.now request.now ways.now }
     requires there { HaveDistances graph.now (changed_ends stops.now front.now request.now at) }
-    ensures { IfOk result (AreLeastWalks graph.now (changed_ends stops.now front.now request.now at)) }
+    ensures least { IfOk result (AreLeastWalks graph.now (changed_ends stops.now front.now request.now at)) }
+    ensures asks { steps.new.1 ≡ steps.old.1 }
 {
     let node = node_at(stops, front, at.i);
     let before_pickup = ways.walk_to_pickup(alloc, graph, node, steps)?.unwrap();
@@ -99,7 +100,8 @@ fn planned<L>(
     requires at_first { AllStandAtFirst fleet.now }
     requires ways { AreWaysOf graph.now request.now ways.now }
     requires offer { IsOffer graph.now fleet.now request.now offer.now }
-    ensures { IfOk result (λ both. IsPlanned graph.now fleet.now request.now offer.now both.0 both.1) }
+    ensures planned { IfOk result (λ both. IsPlanned graph.now fleet.now request.now offer.now both.0 both.1) }
+    ensures asks { steps.new.1 ≡ steps.old.1 }
 {
     let schedule = fleet.car(offer.place).schedule();
     let stops = schedule.stops();
@@ -128,6 +130,7 @@ pub(crate) fn decide<L>(
     requires least { AllHaveLeastWalks graph.now fleet.old }
     ensures ok { IfOk result (λ d. Decides graph.now fleet.old request.now d fleet.new) }
     ensures err { OnErr result (fleet.new ≡ fleet.old) }
+    ensures asks { steps.new.1 ≡ steps.old.1 }
 {
     let ways = Ways::search(alloc, graph, request, steps)?;
     let Some(offer) = best_of_fleet(fleet, request, &ways) else {

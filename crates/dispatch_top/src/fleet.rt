@@ -25,11 +25,12 @@ impl Model for Car {
 }
 
 impl Car {
-    ghost use Rattle.dispatch_top.specs.Opening.{IsInService, opened_car};
+    ghost use Rattle.board_core.specs.Boards.{opening_car};
+    ghost use Rattle.dispatch_top.specs.Opening.{IsInService};
 
     fn opening(alloc: Global, vehicle: &Vehicle) -> Car
         requires { IsInService vehicle.now }
-        ensures { result ≡ opened_car vehicle.now }
+        ensures { result ≡ opening_car vehicle.now }
     {
         Car {
             no: vehicle.no,

@@ -1,5 +1,7 @@
 ghost use Rattle.std.specs.Prelude.{◌≡◌, ℕ};
 
+use std::fmt;
+
 /// How a run ended.
 #[derive(Clone, Copy, Debug, PartialEq, Eq)]
 pub enum Status {
@@ -15,7 +17,7 @@ pub enum Status {
     FleetText { row: u64 },
     /// This line of the stream, from 1, is its first bad one. The lines before it are answered.
     StreamText { line: u64 },
-    /// A text couldn't be begun, or not be read further. The lines of the stream that were read whole are answered.
+    /// A text could not be begun, or not be read further. The lines of the stream whose ends were read are answered.
     ReadFault,
     /// The output couldn't be written. A prefix of it was.
     WriteFault,
@@ -40,6 +42,28 @@ impl Status {
             Status::ReadFault => 6,
             Status::WriteFault => 7,
             Status::NoMemory => 8,
+        }
+    }
+}
+
+/// What is told of a run on the standard error: nothing where it is done.
+impl fmt::Display for Status {
+    ghost use Rattle.std.specs.Prelude.{Some};
+    ghost use Rattle.dispatch_top.specs.Codes.{line_of};
+
+    ghost output = { λ status. Some (line_of status) };
+
+    fn fmt<W: fmt::Write>(&self, f: &mut fmt::Formatter<W>) -> fmt::Result {
+        match self {
+            Status::Done => Ok(()),
+            Status::NotYet => f.write_str("not yet"),
+            Status::Usage => f.write_str("usage"),
+            Status::GraphText { line } => write!(f, "graph line {line}"),
+            Status::FleetText { row } => write!(f, "fleet row {row}"),
+            Status::StreamText { line } => write!(f, "stream line {line}"),
+            Status::ReadFault => f.write_str("read fault"),
+            Status::WriteFault => f.write_str("write fault"),
+            Status::NoMemory => f.write_str("no memory"),
         }
     }
 }

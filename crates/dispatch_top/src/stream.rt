@@ -1,12 +1,14 @@
-ghost use Rattle.std.specs.Prelude.{◌≡◌, ℕ, true, ◌+◌, ◌≤◌, ◌<◌, ◌^◌, IfOk, IsOk, OnErr, Ok, Err, Some, None, IfSome};
+ghost use Rattle.std.specs.Prelude.{◌≡◌, ℕ, List, [], ◌∷◌, ◌++◌, true, false, ◌+◌, ◌≤◌, ◌<◌, ◌^◌, IfOk, IsOk, OnErr, Ok, Err, Some, None, IfSome};
 ghost use Rattle.ride_base.specs.Outside.{Rose, OnlyRead};
+ghost use Rattle.ride_base.specs.Prefixes.{AreGiven, IsReadWithLines};
 ghost use Rattle.ride_base.specs.Reading.{unread};
 ghost use Rattle.ride_base.specs.Told.{WhereTold};
 ghost use Rattle.road_graph.specs.Roads.{is_node as is_node_of, IsNode};
 ghost use Rattle.stop_schedule.specs.declared.request.Request.{Request as RequestOf};
 ghost use Rattle.input_tables.specs.Refusals.{AreVehicles};
 ghost use Rattle.input_tables.specs.Streams.{stream_line_of};
-ghost use Rattle.dispatch_top.specs.Streaming.{AreMore, HaveLeastWalks, LineAnswer, LineGiven, RideAnswer, Streamed, accepted_by, asked_by};
+ghost use Rattle.dispatch_top.specs.Deciding.{AllHaveLeastWalks};
+ghost use Rattle.dispatch_top.specs.Streaming.{AreMore, LineAnswer, LineGiven, RideAnswer, Streamed, accepted_by, asked_by};
 
 use crate::answer::decide;
 use crate::ending::Ending;
@@ -14,14 +16,11 @@ use crate::fleet::Fleet;
 use board_core::{Entry, Submitted};
 use input_tables::{StreamLine, stream_line};
 use journal_text::render;
-use ride_base::{Line, LineFault, Lines, RequestNo, Shelf, Sink, write_whole};
+use ride_base::{LARGEST_TEXT, Line, LineFault, Lines, RequestNo, Shelf, Sink, write_whole};
 use road_graph::{Graph, NodeNo, Steps};
 use std::alloc::Global;
 use std::collections::BTreeSet;
 use stop_schedule::{Params, Request, Vehicle};
-
-/// The most bytes of a stream.
-const LARGEST_TEXT: u64 = 1 << 30;
 
 /// Answers the rides of the text that is begun, one after another, from the vehicles at their starts on.
 pub(crate) fn answer_stream<S: Shelf, K: Sink, L>(
@@ -40,6 +39,7 @@ pub(crate) fn answer_stream<S: Shelf, K: Sink, L>(
     ensures surely { S.IsSure shelf.old → result ≡ Err Ending.ReadFault → ⊥ }
     ensures written { result ≡ Err Ending.WriteFault → Rose (K.faults sink.old) (K.faults sink.new) }
     ensures counted { K.faults sink.old ≤ K.faults sink.new }
+    ensures asks { steps.new.1 ≡ steps.old.1 }
     ensures shelf { OnlyRead S.IsBegun S.held S.names S.IsSure S.faults shelf.old shelf.new }
 {
     let mut fleet = Fleet::opening(alloc, params, vehicles)?;
@@ -67,9 +67,13 @@ fn next_line<S: Shelf>(
 ) -> Result<Option<Line>, Ending>
     requires begun { S.IsBegun shelf.old }
     requires unstopped { lines.old.stopped ≡ None }
+    requires goes_on { lines.old.over ≡ false }
     requires number { number ≡ lines.old.given }
     requires few { number ≤ 2 ^ 30 }
-    ensures given { LineGiven number lines.old.room (unread lines.old (S.left shelf.old)) result lines.new.room (unread lines.new (S.left shelf.new)) lines.new.pending }
+    ensures given { LineGiven number lines.old.room (unread lines.old (S.left shelf.old)) result lines.new.room (unread lines.new (S.left shelf.new)) }
+    ensures goes { IfOk result (λ o. IfSome o (λ line. line.ended ≡ true → (all : ℕ) (text : List ℕ) (given : List (List ℕ)) → AreGiven all text given lines.old (S.left shelf.old) → AreGiven all text (given ++ line.bytes ∷ []) lines.new (S.left shelf.new))) }
+    ensures failed { result ≡ Err Ending.ReadFault → (all : ℕ) (text : List ℕ) (given : List (List ℕ)) → AreGiven all text given lines.old (S.left shelf.old) → IsReadWithLines all text given (S.left shelf.new) }
+    ensures over { IfOk result (λ o. IfSome o (λ line. line.ended ≡ true → lines.new.over ≡ false)) }
     ensures unstopped { IsOk result → lines.new.stopped ≡ None }
     ensures count { IfOk result (λ o. IfSome o (λ line. (line.number ≡ number + 1) × (lines.new.given ≡ number + 1))) }
     ensures falls { IfOk result (λ o. IfSome o (λ _. lines.new.room < lines.old.room)) }
@@ -96,12 +100,13 @@ fn answer_line<K: Sink, L>(
     steps: &mut Steps<L>,
 ) -> Result<(), Ending>
     requires version { fleet.old.version < 2 ^ 61 }
-    requires walks { HaveLeastWalks graph.now fleet.old.cars }
+    requires walks { AllHaveLeastWalks graph.now fleet.old }
     ensures answered { LineAnswer graph.now numbers.old fleet.old (asked_by graph.now.nodes numbers.old line.now.number (stream_line_of line.now.bytes)) result numbers.new fleet.new (K.taken sink.old) (K.taken sink.new) }
     ensures unread { result ≡ Err Ending.ReadFault → ⊥ }
     ensures moments { (r : RequestOf) → asked_by graph.now.nodes numbers.old line.now.number (stream_line_of line.now.bytes) ≡ Ok (Some r) → r.moment ≤ 2 ^ 40 }
     ensures written { result ≡ Err Ending.WriteFault → Rose (K.faults sink.old) (K.faults sink.new) }
     ensures counted { K.faults sink.old ≤ K.faults sink.new }
+    ensures asks { steps.new.1 ≡ steps.old.1 }
 {
     let Some(request) = asked(graph.nodes(), numbers, line)? else {
         return Ok(());
@@ -174,11 +179,12 @@ fn answer_ride<K: Sink, L>(
     requires moment { request.moment ≤ 2 ^ 40 }
     requires riders { request.riders ≤ 16 }
     requires version { fleet.old.version < 2 ^ 61 }
-    requires walks { HaveLeastWalks graph.now fleet.old.cars }
+    requires walks { AllHaveLeastWalks graph.now fleet.old }
     ensures answered { RideAnswer graph.now fleet.old request result fleet.new (K.taken sink.old) (K.taken sink.new) }
     ensures unread { result ≡ Err Ending.ReadFault → ⊥ }
     ensures written { result ≡ Err Ending.WriteFault → Rose (K.faults sink.old) (K.faults sink.new) }
     ensures counted { K.faults sink.old ≤ K.faults sink.new }
+    ensures asks { steps.new.1 ≡ steps.old.1 }
 {
     fleet.count_entry();
     let decision = decide(alloc, graph, fleet, &request, steps)?;

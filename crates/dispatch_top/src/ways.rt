@@ -1,4 +1,4 @@
-ghost use Rattle.std.specs.Prelude.{IfOk, MatchOption};
+ghost use Rattle.std.specs.Prelude.{◌≡◌, IfOk, MatchOption};
 ghost use Rattle.road_graph.specs.Roads.{Roads, IsNode};
 ghost use Rattle.road_graph.specs.Walks.{IsDist, IsLeastWalk, NoWalk};
 ghost use Rattle.plain_search.specs.Reaching.{IsReach};
@@ -31,7 +31,8 @@ impl Ways {
     ) -> Result<Ways, NoMemory>
         requires pickup { IsNode graph.now request.now.pickup }
         requires dropoff { IsNode graph.now request.now.dropoff }
-        ensures { IfOk result (AreWaysOf graph.now request.now) }
+        ensures ways { IfOk result (AreWaysOf graph.now request.now) }
+        ensures asks { steps.new.1 ≡ steps.old.1 }
     {
         Ok(Ways {
             to_pickup: reach_to(alloc, graph, request.pickup, None, steps)?,
@@ -78,7 +79,8 @@ impl Ways {
         steps: &mut Steps<L>,
     ) -> Result<Option<Walk>, NoMemory>
         requires { IsReach graph.now self.now.to_pickup }
-        ensures { (r : RequestOf) → AreWaysOf graph.now r self.now → IfOk result (λ found. MatchOption found (NoWalk graph.now node r.pickup) (IsLeastWalk graph.now node r.pickup)) }
+        ensures walk { (r : RequestOf) → AreWaysOf graph.now r self.now → IfOk result (λ found. MatchOption found (NoWalk graph.now node r.pickup) (IsLeastWalk graph.now node r.pickup)) }
+        ensures asks { steps.new.1 ≡ steps.old.1 }
     {
         self.to_pickup.walk(alloc, graph, node, steps)
     }
@@ -92,7 +94,8 @@ impl Ways {
         steps: &mut Steps<L>,
     ) -> Result<Option<Walk>, NoMemory>
         requires { IsReach graph.now self.now.from_pickup }
-        ensures { (r : RequestOf) → AreWaysOf graph.now r self.now → IfOk result (λ found. MatchOption found (NoWalk graph.now r.pickup node) (IsLeastWalk graph.now r.pickup node)) }
+        ensures walk { (r : RequestOf) → AreWaysOf graph.now r self.now → IfOk result (λ found. MatchOption found (NoWalk graph.now r.pickup node) (IsLeastWalk graph.now r.pickup node)) }
+        ensures asks { steps.new.1 ≡ steps.old.1 }
     {
         self.from_pickup.walk(alloc, graph, node, steps)
     }
@@ -106,7 +109,8 @@ impl Ways {
         steps: &mut Steps<L>,
     ) -> Result<Option<Walk>, NoMemory>
         requires { IsReach graph.now self.now.to_dropoff }
-        ensures { (r : RequestOf) → AreWaysOf graph.now r self.now → IfOk result (λ found. MatchOption found (NoWalk graph.now node r.dropoff) (IsLeastWalk graph.now node r.dropoff)) }
+        ensures walk { (r : RequestOf) → AreWaysOf graph.now r self.now → IfOk result (λ found. MatchOption found (NoWalk graph.now node r.dropoff) (IsLeastWalk graph.now node r.dropoff)) }
+        ensures asks { steps.new.1 ≡ steps.old.1 }
     {
         self.to_dropoff.walk(alloc, graph, node, steps)
     }
@@ -120,7 +124,8 @@ impl Ways {
         steps: &mut Steps<L>,
     ) -> Result<Option<Walk>, NoMemory>
         requires { IsReach graph.now self.now.from_dropoff }
-        ensures { (r : RequestOf) → AreWaysOf graph.now r self.now → IfOk result (λ found. MatchOption found (NoWalk graph.now r.dropoff node) (IsLeastWalk graph.now r.dropoff node)) }
+        ensures walk { (r : RequestOf) → AreWaysOf graph.now r self.now → IfOk result (λ found. MatchOption found (NoWalk graph.now r.dropoff node) (IsLeastWalk graph.now r.dropoff node)) }
+        ensures asks { steps.new.1 ≡ steps.old.1 }
     {
         self.from_dropoff.walk(alloc, graph, node, steps)
     }

@@ -1,49 +1,49 @@
 use Rattle.std.proofs.Common.{◌≡◌, ℕ, suc, Bool, true, false, cond, List, [], ◌∷◌, length, Option, Some, None, inl, inr, refl, sym, ap, ◌∙◌, arith}
 use Rattle.std.specs.Prelude.{codes, ◌⊎◌, ◌&&◌, nat_le, Ok, Err}
-use Rattle.ride_base.specs.Fields.{is_number, value_of, capped_of, fields_of}
+use Rattle.ride_base.specs.Fields.{capped, is_number, value_of, capped_of, fields_of}
 use Rattle.input_tables.specs.declared.faults.StreamFault.TheVariants.{Form, Range}
 use Rattle.input_tables.specs.declared.lines.StreamLine.TheVariants.{Ride}
 use Rattle.input_tables.specs.Numbers.{before, numbers_of, GoesOn, ride_with}
 use Rattle.input_tables.specs.Streams.{said_by, stream_line_of, ride_of, ranged_ride, are_in_range, request_of, largest_moment, largest_32}
-use Rattle.input_tables.proofs.Cutting.{cut, le_cut, within, first_of, rest_of}
+use Rattle.input_tables.proofs.Cutting.{le_cut, within, first_of, rest_of}
 
 -- cut numbers are in their ranges where the numbers are
-same_range : (a b c d e : ℕ) → are_in_range (cut a) (cut b) (cut c) (cut d) (cut e) ≡ are_in_range a b c d e
+same_range : (a b c d e : ℕ) → are_in_range (capped a) (capped b) (capped c) (capped d) (capped e) ≡ are_in_range a b c d e
 same_range a b c d e =
-    let h : nat_le (cut a) largest_moment ≡ nat_le a largest_moment = le_cut a largest_moment (omega arith) in
-    let i : nat_le (cut b) largest_32 ≡ nat_le b largest_32 = le_cut b largest_32 (omega arith) in
-    let j : nat_le (cut c) largest_32 ≡ nat_le c largest_32 = le_cut c largest_32 (omega arith) in
-    let k : nat_le (cut d) largest_moment ≡ nat_le d largest_moment = le_cut d largest_moment (omega arith) in
-    let l : nat_le (cut e) largest_32 ≡ nat_le e largest_32 = le_cut e largest_32 (omega arith) in
+    let h : nat_le (capped a) largest_moment ≡ nat_le a largest_moment = le_cut a largest_moment (omega arith) in
+    let i : nat_le (capped b) largest_32 ≡ nat_le b largest_32 = le_cut b largest_32 (omega arith) in
+    let j : nat_le (capped c) largest_32 ≡ nat_le c largest_32 = le_cut c largest_32 (omega arith) in
+    let k : nat_le (capped d) largest_moment ≡ nat_le d largest_moment = le_cut d largest_moment (omega arith) in
+    let l : nat_le (capped e) largest_32 ≡ nat_le e largest_32 = le_cut e largest_32 (omega arith) in
     cc
 
 -- cut numbers say what the numbers do
-ranged_cut : (a b c d e : ℕ) → ranged_ride (cut a) (cut b) (cut c) (cut d) (cut e) ≡ ranged_ride a b c d e
+ranged_cut : (a b c d e : ℕ) → ranged_ride (capped a) (capped b) (capped c) (capped d) (capped e) ≡ ranged_ride a b c d e
 ranged_cut a b c d e = by (are_in_range a b c d e) refl
   where
-    by : (t : Bool) → are_in_range a b c d e ≡ t → ranged_ride (cut a) (cut b) (cut c) (cut d) (cut e) ≡ ranged_ride a b c d e
+    by : (t : Bool) → are_in_range a b c d e ≡ t → ranged_ride (capped a) (capped b) (capped c) (capped d) (capped e) ≡ ranged_ride a b c d e
     by true h =
         let h1 = rest_of (nat_le a largest_moment) _ h in
         let h2 = rest_of (nat_le b largest_32) _ h1 in
         let h3 = rest_of (nat_le c largest_32) _ h2 in
-        let ea : cut a ≡ a = within a largest_moment (omega arith) (first_of (nat_le a largest_moment) _ h) in
-        let eb : cut b ≡ b = within b largest_32 (omega arith) (first_of (nat_le b largest_32) _ h1) in
-        let ec : cut c ≡ c = within c largest_32 (omega arith) (first_of (nat_le c largest_32) _ h2) in
-        let ed : cut d ≡ d = within d largest_moment (omega arith) (first_of (nat_le d largest_moment) _ h3) in
-        let ee : cut e ≡ e = within e largest_32 (omega arith) (rest_of (nat_le d largest_moment) _ h3) in
+        let ea : capped a ≡ a = within a largest_moment (omega arith) (first_of (nat_le a largest_moment) _ h) in
+        let eb : capped b ≡ b = within b largest_32 (omega arith) (first_of (nat_le b largest_32) _ h1) in
+        let ec : capped c ≡ c = within c largest_32 (omega arith) (first_of (nat_le c largest_32) _ h2) in
+        let ed : capped d ≡ d = within d largest_moment (omega arith) (first_of (nat_le d largest_moment) _ h3) in
+        let ee : capped e ≡ e = within e largest_32 (omega arith) (rest_of (nat_le d largest_moment) _ h3) in
         cc
     by false h =
-        ap (λ (t : Bool). cond t (Ok (Ride (request_of (cut a) (cut b) (cut c) (cut d) (cut e)))) (Err Range)) (same_range a b c d e ∙ h)
+        ap (λ (t : Bool). cond t (Ok (Ride (request_of (capped a) (capped b) (capped c) (capped d) (capped e)))) (Err Range)) (same_range a b c d e ∙ h)
         ∙ sym (ap (λ (t : Bool). cond t (Ok (Ride (request_of a b c d e))) (Err Range)) h)
 
 -- five fields, each of which is a number or none
 five : (ta tb tc td te : Bool) (a b c d e : ℕ) → cond (ta && (tb && (tc && (td && te)))) (ranged_ride a b c d e) (Err Form)
-    ≡ ride_with (before (cond ta (Some (cut a)) None) (before (cond tb (Some (cut b)) None) (before (cond tc (Some (cut c)) None) (before (cond td (Some (cut d)) None) (before (cond te (Some (cut e)) None) (Some []))))))
+    ≡ ride_with (before (cond ta (Some (capped a)) None) (before (cond tb (Some (capped b)) None) (before (cond tc (Some (capped c)) None) (before (cond td (Some (capped d)) None) (before (cond te (Some (capped e)) None) (Some []))))))
 five true true true true true a b c d e = sym (ranged_cut a b c d e)
 five true true true true false a b c d e = refl
 five true true true false te a b c d e = by te
   where
-    by : (te : Bool) → cond false (ranged_ride a b c d e) (Err Form) ≡ ride_with (before (Some (cut a)) (before (Some (cut b)) (before (Some (cut c)) (before None (before (cond te (Some (cut e)) None) (Some []))))))
+    by : (te : Bool) → cond false (ranged_ride a b c d e) (Err Form) ≡ ride_with (before (Some (capped a)) (before (Some (capped b)) (before (Some (capped c)) (before None (before (cond te (Some (capped e)) None) (Some []))))))
     by te = refl
 five true true false td te a b c d e = refl
 five true false tc td te a b c d e = refl

@@ -3,7 +3,7 @@ use Rattle.std.specs.Prelude.{◌&&◌, nat_le}
 use Rattle.std.proofs.lemmas.Bool.Decides.{nat_tests}
 use Rattle.std.proofs.lemmas.Option.{same_Some}
 use Rattle.csv.specs.Records.{field_at}
-use Rattle.ride_base.specs.Fields.{is_number, value_of}
+use Rattle.ride_base.specs.Fields.{capped, is_number, value_of}
 use Rattle.stop_schedule.specs.declared.vehicle.Vehicle.{Vehicle}
 use Rattle.input_tables.specs.declared.faults.FleetFault.{FleetFault}
 use Rattle.input_tables.specs.declared.faults.FleetFault.TheVariants.{Header, Form, Range, Double}
@@ -11,7 +11,7 @@ use Rattle.input_tables.specs.declared.cells.RowNumbers.{RowNumbers}
 use Rattle.input_tables.specs.Fleets.{is_header, without_blanks, vehicle_in, checked, vehicle_of, is_in_range, stood_before, most_vehicles, fleet_in, ordered, vehicles_in}
 use Rattle.input_tables.specs.Streams.{largest_32, largest_moment}
 use Rattle.input_tables.specs.Rows.{IsHeaded, is_headed, five_numbers, row_of, vehicle_by, ranged_by}
-use Rattle.input_tables.proofs.Cutting.{cut, le_cut, within, first_of, rest_of}
+use Rattle.input_tables.proofs.Cutting.{le_cut, within, first_of, rest_of}
 
 -- six and more are not five
 not_five : (n : ℕ) → (suc (suc (suc (suc (suc (suc n))))) == 5) ≡ false
@@ -30,45 +30,29 @@ headed_is (a ∷ b ∷ c ∷ d ∷ e ∷ f ∷ more) = rw (not_five (length more
 
 -- none of these numbers is cut
 abbrev Uncut : (a b c d e : ℕ) → Type 0
-Uncut a b c d e = (cut a ≡ a) × (cut b ≡ b) × (cut c ≡ c) × (cut d ≡ d) × (cut e ≡ e)
+Uncut a b c d e = (capped a ≡ a) × (capped b ≡ b) × (capped c ≡ c) × (capped d ≡ d) × (capped e ≡ e)
 
-cut_within : (n most : ℕ) → most ≤ 2 ^ 63 → nat_le (cut n) most ≡ true → cut n ≡ n
+cut_within : (n most : ℕ) → most ≤ 2 ^ 63 → nat_le (capped n) most ≡ true → capped n ≡ n
 cut_within n most h t = within n most h (sym (le_cut n most h) ∙ t)
 
--- numbers in their ranges aren't cut
-uncut : (nodes a b c d e : ℕ) → nodes ≤ 2 ^ 63 → is_in_range nodes (vehicle_of a b c d e) ≡ true → Uncut a b c d e
-uncut nodes a b c d e few h =
-    let h1 = rest_of (nat_le 1 a) _ h in
-    let h2 = rest_of (nat_le a largest_32) _ h1 in
-    let start = first_of (nat_le 1 b && nat_le b nodes) _ h2 in
-    let h3 = rest_of (nat_le 1 b && nat_le b nodes) _ h2 in
-    let h4 = rest_of (nat_le 1 c) _ h3 in
-    let h5 = rest_of (nat_le c 16) _ h4 in
-    let h6 = rest_of (nat_le d largest_moment) _ h5 in (
-      within a largest_32 (omega arith) (first_of (nat_le a largest_32) _ h1),
-      within b nodes few (rest_of (nat_le 1 b) _ start),
-      within c 16 (omega arith) (first_of (nat_le c 16) _ h4),
-      within d largest_moment (omega arith) (first_of (nat_le d largest_moment) _ h5),
-      within e largest_moment (omega arith) (first_of (nat_le e largest_moment) _ h6),
+-- numbers aren't cut where those that `f` makes of them are in their ranges
+uncut : (f : ℕ → ℕ) → ((n most : ℕ) → most ≤ 2 ^ 63 → nat_le (f n) most ≡ true → capped n ≡ n) → (nodes a b c d e : ℕ) → nodes ≤ 2 ^ 63 → is_in_range nodes (vehicle_of (f a) (f b) (f c) (f d) (f e)) ≡ true → Uncut a b c d e
+uncut f inside nodes a b c d e few h =
+    let h1 = rest_of (nat_le 1 (f a)) _ h in
+    let h2 = rest_of (nat_le (f a) largest_32) _ h1 in
+    let start = first_of (nat_le 1 (f b) && nat_le (f b) nodes) _ h2 in
+    let h3 = rest_of (nat_le 1 (f b) && nat_le (f b) nodes) _ h2 in
+    let h4 = rest_of (nat_le 1 (f c)) _ h3 in
+    let h5 = rest_of (nat_le (f c) 16) _ h4 in
+    let h6 = rest_of (nat_le (f d) largest_moment) _ h5 in (
+      inside a largest_32 (omega arith) (first_of (nat_le (f a) largest_32) _ h1),
+      inside b nodes few (rest_of (nat_le 1 (f b)) _ start),
+      inside c 16 (omega arith) (first_of (nat_le (f c) 16) _ h4),
+      inside d largest_moment (omega arith) (first_of (nat_le (f d) largest_moment) _ h5),
+      inside e largest_moment (omega arith) (first_of (nat_le (f e) largest_moment) _ h6),
     )
 
-uncut_when_cut : (nodes a b c d e : ℕ) → nodes ≤ 2 ^ 63 → is_in_range nodes (vehicle_of (cut a) (cut b) (cut c) (cut d) (cut e)) ≡ true → Uncut a b c d e
-uncut_when_cut nodes a b c d e few h =
-    let h1 = rest_of (nat_le 1 (cut a)) _ h in
-    let h2 = rest_of (nat_le (cut a) largest_32) _ h1 in
-    let start = first_of (nat_le 1 (cut b) && nat_le (cut b) nodes) _ h2 in
-    let h3 = rest_of (nat_le 1 (cut b) && nat_le (cut b) nodes) _ h2 in
-    let h4 = rest_of (nat_le 1 (cut c)) _ h3 in
-    let h5 = rest_of (nat_le (cut c) 16) _ h4 in
-    let h6 = rest_of (nat_le (cut d) largest_moment) _ h5 in (
-      cut_within a largest_32 (omega arith) (first_of (nat_le (cut a) largest_32) _ h1),
-      cut_within b nodes few (rest_of (nat_le 1 (cut b)) _ start),
-      cut_within c 16 (omega arith) (first_of (nat_le (cut c) 16) _ h4),
-      cut_within d largest_moment (omega arith) (first_of (nat_le (cut d) largest_moment) _ h5),
-      cut_within e largest_moment (omega arith) (first_of (nat_le (cut e) largest_moment) _ h6),
-    )
-
-same_vehicle : (a b c d e : ℕ) → Uncut a b c d e → vehicle_of a b c d e ≡ vehicle_of (cut a) (cut b) (cut c) (cut d) (cut e)
+same_vehicle : (a b c d e : ℕ) → Uncut a b c d e → vehicle_of a b c d e ≡ vehicle_of (capped a) (capped b) (capped c) (capped d) (capped e)
 same_vehicle a b c d e u =
     let (ua, ub, uc, ud, ue) = u in
     rw (ua, ub, uc, ud, ue) refl
@@ -77,14 +61,14 @@ out_of_range : (nodes row : ℕ) (before : List Vehicle) (v : Vehicle) → is_in
 out_of_range nodes row before v h = rw h refl
 
 -- cut numbers are checked as the numbers are
-checked_cut : (nodes row : ℕ) (before : List Vehicle) (a b c d e : ℕ) → nodes ≤ 2 ^ 63 → checked nodes row before (vehicle_of a b c d e) ≡ checked nodes row before (vehicle_of (cut a) (cut b) (cut c) (cut d) (cut e))
-checked_cut nodes row before a b c d e few = by (is_in_range nodes (vehicle_of a b c d e)) (is_in_range nodes (vehicle_of (cut a) (cut b) (cut c) (cut d) (cut e))) refl refl
+checked_cut : (nodes row : ℕ) (before : List Vehicle) (a b c d e : ℕ) → nodes ≤ 2 ^ 63 → checked nodes row before (vehicle_of a b c d e) ≡ checked nodes row before (vehicle_of (capped a) (capped b) (capped c) (capped d) (capped e))
+checked_cut nodes row before a b c d e few = by (is_in_range nodes (vehicle_of a b c d e)) (is_in_range nodes (vehicle_of (capped a) (capped b) (capped c) (capped d) (capped e))) refl refl
   where
-    by : (s t : Bool) → is_in_range nodes (vehicle_of a b c d e) ≡ s → is_in_range nodes (vehicle_of (cut a) (cut b) (cut c) (cut d) (cut e)) ≡ t
-        → checked nodes row before (vehicle_of a b c d e) ≡ checked nodes row before (vehicle_of (cut a) (cut b) (cut c) (cut d) (cut e))
-    by true t h i = ap (checked nodes row before) (same_vehicle a b c d e (uncut nodes a b c d e few h))
-    by false true h i = ap (checked nodes row before) (same_vehicle a b c d e (uncut_when_cut nodes a b c d e few i))
-    by false false h i = out_of_range nodes row before (vehicle_of a b c d e) h ∙ sym (out_of_range nodes row before (vehicle_of (cut a) (cut b) (cut c) (cut d) (cut e)) i)
+    by : (s t : Bool) → is_in_range nodes (vehicle_of a b c d e) ≡ s → is_in_range nodes (vehicle_of (capped a) (capped b) (capped c) (capped d) (capped e)) ≡ t
+        → checked nodes row before (vehicle_of a b c d e) ≡ checked nodes row before (vehicle_of (capped a) (capped b) (capped c) (capped d) (capped e))
+    by true t h i = ap (checked nodes row before) (same_vehicle a b c d e (uncut (λ n. n) within nodes a b c d e few h))
+    by false true h i = ap (checked nodes row before) (same_vehicle a b c d e (uncut capped cut_within nodes a b c d e few i))
+    by false false h i = out_of_range nodes row before (vehicle_of a b c d e) h ∙ sym (out_of_range nodes row before (vehicle_of (capped a) (capped b) (capped c) (capped d) (capped e)) i)
 
 -- what a row's numbers say, where it has five
 abbrev pub row_said : (nodes row : ℕ) → List Vehicle → Option RowNumbers → Result Vehicle FleetFault
@@ -94,7 +78,7 @@ row_said nodes row before (Some numbers) = checked nodes row before (vehicle_by 
 -- five fields, each of which is a number or none
 five : (nodes row : ℕ) (before : List Vehicle) (ta tb tc td te : Bool) (a b c d e : ℕ) → nodes ≤ 2 ^ 63
     → cond (ta && (tb && (tc && (td && te)))) (checked nodes row before (vehicle_of a b c d e)) (Err (Form row))
-    ≡ row_said nodes row before (five_numbers (cond ta (Some (cut a)) None) (cond tb (Some (cut b)) None) (cond tc (Some (cut c)) None) (cond td (Some (cut d)) None) (cond te (Some (cut e)) None))
+    ≡ row_said nodes row before (five_numbers (cond ta (Some (capped a)) None) (cond tb (Some (capped b)) None) (cond tc (Some (capped c)) None) (cond td (Some (capped d)) None) (cond te (Some (capped e)) None))
 five nodes row before true true true true true a b c d e few = checked_cut nodes row before a b c d e few
 five nodes row before true true true true false a b c d e few = refl
 five nodes row before true true true false te a b c d e few = refl

@@ -1,6 +1,6 @@
-use Rattle.std.specs.Prelude.{ℕ, ◌≤◌, ◌==◌, ◌&&◌, nat_le, Bool, false, cond, List, [], ◌∷◌, Result, Ok, Err, codes}
+use Rattle.std.specs.Prelude.{ℕ, ◌≤◌, ◌&&◌, nat_le, Bool, cond, List, [], ◌∷◌, Result, Ok, Err, codes}
 use Rattle.std.specs.Str.{bytes_eq}
-use Rattle.ride_base.specs.Fields.{fields_of, is_number, value_of}
+use Rattle.ride_base.specs.Fields.{fields_of, is_number, value_of, begins_comment}
 use Rattle.stop_schedule.specs.declared.request.Request.{Request}
 use Rattle.input_tables.specs.declared.faults.StreamFault.{StreamFault}
 use Rattle.input_tables.specs.declared.faults.StreamFault.TheVariants.{Form, Range}
@@ -15,11 +15,6 @@ largest_moment = 1099511627776
 
 abbrev pub largest_32 : ℕ
 largest_32 = 4294967295
-
--- the first byte of a comment, behind blanks, is `c`
-abbrev pub begins_comment : List ℕ → Bool
-begins_comment [] = false
-begins_comment (b ∷ bs) = b == 99
 
 abbrev pub are_in_range : (number pickup dropoff moment riders : ℕ) → Bool
 are_in_range number pickup dropoff moment riders =

@@ -1,11 +1,10 @@
 ghost use Rattle.std.specs.Prelude.{◌≡◌, reverse};
 ghost use Rattle.csv.specs.Records.{fields_of, field_at};
-ghost use Rattle.ride_base.specs.Fields.{is_blank as is_blank_of};
 ghost use Rattle.input_tables.specs.Fleets.{without_blanks as without_blanks_of, behind_blanks as behind_blanks_of};
 ghost use Rattle.input_tables.specs.Rows.{is_headed, is_named, number_in, row_of};
 
 use csv::ByteRecord;
-use ride_base::capped_number;
+use ride_base::{capped_number, is_blank};
 
 /// The numbers of a row, each cut at the largest of 64 bits.
 #[derive(Clone, Copy)]
@@ -104,10 +103,4 @@ fn before_blanks(field: &[u8]) -> &[u8]
         rest = before;
     }
     rest
-}
-
-fn is_blank(byte: u8) -> bool
-    ensures { result ≡ is_blank_of byte }
-{
-    byte == b' ' || byte == b'\t'
 }

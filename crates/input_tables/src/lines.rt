@@ -4,7 +4,7 @@ ghost use Rattle.input_tables.specs.Numbers.{before, numbers_of, IsOver, GoesOn,
 ghost use Rattle.input_tables.specs.Streams.{IsInRange, stream_line_of, move_of, ranged_ride};
 
 use crate::faults::StreamFault;
-use ride_base::{Line, RequestNo, capped_number, next_field};
+use ride_base::{Line, RequestNo, begins_comment, capped_number, next_field};
 use road_graph::NodeNo;
 use stop_schedule::Request;
 
@@ -17,9 +17,9 @@ const LARGEST_32: u64 = 4_294_967_295;
 /// What a line of a request stream says.
 #[derive(Clone, Copy, Debug, PartialEq, Eq)]
 pub enum StreamLine {
-    /// A request is submitted.
+    /// A request is submitted. Its number and moment are at most 2^40, its nodes and riders any numbers of 32 bits.
     Ride(Request),
-    /// The clock moves to this moment.
+    /// The clock moves to this moment, at most 2^40.
     Move(u64),
     /// A comment, or a line without fields.
     Nothing,
@@ -34,7 +34,7 @@ pub fn stream_line(line: &Line) -> Result<StreamLine, StreamFault>
     let Some((first, rest)) = next_field(line.bytes.as_slice()) else {
         return Ok(StreamLine::Nothing);
     };
-    if first.starts_with(b"c") {
+    if begins_comment(first) {
         Ok(StreamLine::Nothing)
     } else if first == b"r".as_slice() {
         ride(rest)

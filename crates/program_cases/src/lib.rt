@@ -4,6 +4,8 @@
 #[cfg(test)]
 mod endings;
 #[cfg(test)]
+mod lines;
+#[cfg(test)]
 mod rides;
 #[cfg(test)]
 mod runs;

@@ -8,3 +8,4 @@ pub mod Capping
 pub mod Cutting
 pub mod Storing
 pub mod Shelves
+pub mod Reaching

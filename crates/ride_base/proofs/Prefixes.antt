@@ -1,26 +1,19 @@
-use Rattle.std.proofs.Common.{◌≡◌, ℕ, suc, ◌+◌, ◌-◌, ◌<◌, ◌≤◌, List, [], ◌∷◌, ◌++◌, true, false, Option, Some, None, refl, sym, ap, ◌∙◌, arith, append_assoc, append-nil, map, length, take, drop, position}
-use Rattle.std.specs.Prelude.{is_some}
+use Rattle.std.proofs.Common.{◌≡◌, ℕ, suc, ◌+◌, ◌-◌, ◌<◌, ◌≤◌, List, [], ◌∷◌, ◌++◌, true, false, Bool, Option, Some, None, Result, Ok, Err, refl, sym, ap, subst, ◌∙◌, arith, append_assoc, append-nil, map, length, length-append, take, drop, position, min}
+use Rattle.std.specs.Prelude.{is_some, IfOk, IfSome}
 use Rattle.std.specs.List.{All, slice_split}
 use Rattle.std.specs.Str.Lines.{strip_carriage_return}
 use Rattle.std.proofs.lemmas.List.Splits.{slice_split_at, slice_split_none, length-slice_split}
-use Rattle.ride_base.specs.Buffers.{stop_of}
+use Rattle.ride_base.specs.Buffers.{stop_of, with_front}
 use Rattle.ride_base.specs.Pieces.{Piece, Whole, pieces, after_line, is_line_end, is_ended, ended_lines, ended_in_parts, longest_line}
-use Rattle.ride_base.specs.Prefixes.{IsReadTo, behind_line_ends, last_part}
+use Rattle.ride_base.specs.Prefixes.{IsReadWithLines, AreFirstLines, AreBefore, AreUnended, all_ended, behind_line_ends, last_part}
 use Rattle.ride_base.specs.Reader.{Stop, Long, Large}
+use Rattle.ride_base.specs.Reading.{Tells, Spends, line_read}
+use Rattle.ride_base.specs.declared.lines.Line.{Line}
+use Rattle.ride_base.specs.declared.lines.LineFault.{LineFault}
 use Rattle.ride_base.proofs.Cutting.{after_stop, pieces_at, cut_at, after_line_at}
 use Rattle.ride_base.proofs.Searching.{unended_before, unended}
 
 -- Prefixes of a text: lines that were read whole, and what is left behind them.
-
--- parts of a text, each with a line end behind it
-abbrev pub all_ended : List (List ℕ) → List ℕ
-all_ended [] = []
-all_ended (part ∷ parts) = part ++ 10 ∷ all_ended parts
-
--- no line end is in them
-abbrev pub AreUnended : List (List ℕ) → Type 0
-AreUnended [] = Unit {0}
-AreUnended (part ∷ parts) = All (λ b. is_line_end b ≡ false) part × AreUnended parts
 
 some_parts : (x : List ℕ) (ps : List (List ℕ)) → 0 < length ps → ended_in_parts (x ∷ ps) ≡ strip_carriage_return x ∷ ended_in_parts ps
 some_parts x [] h = absurd (omega arith)
@@ -84,36 +77,33 @@ is_cut room room' rest bytes e p =
       bytes_are = whole_is (stop_of f.0 (f.0 + 1) room) bytes (strip_carriage_return (take f.0 rest)) (pieces room' (after_line rest)) (pieces (room - (f.0 + 1)) (drop (f.0 + 1) rest ++ [])) (sym p ∙ cut);
     }
 
--- What was read of a text that may have so many bytes: parts that a line end ends, the text's first pieces, and what is left behind
--- them, which may still have so many bytes.
-pub record IsPrefixOf (all : ℕ) (text rest : List ℕ) (number room : ℕ) : Type 0 where
-  pub parts : List (List ℕ)
-  pub unended_parts : AreUnended parts
-  pub is_text : text ≡ all_ended parts ++ rest
-  pub count : length parts ≡ number
-  pub in_pieces : pieces all text ≡ map Whole (map strip_carriage_return parts) ++ pieces room rest
-
 -- nothing was read
-pub nothing_read : (all : ℕ) (text : List ℕ) → IsPrefixOf all text text 0 all
-nothing_read all text = record { parts = []; unended_parts = tt; is_text = refl; count = refl; in_pieces = refl }
+pub nothing_read : (all : ℕ) (text : List ℕ) → AreFirstLines all text [] all text
+nothing_read all text = record { parts = []; unended_parts = tt; are_lines = refl; is_text = refl; spent = omega arith; first = refl }
 
--- the lines with one more
-pub lines_more : (parts : List (List ℕ)) (part bytes : List ℕ) → bytes ≡ strip_carriage_return part
-    → map Whole (map strip_carriage_return (parts ++ part ∷ [])) ≡ map Whole (map strip_carriage_return parts) ++ Whole bytes ∷ []
-lines_more parts part bytes e = ap (map Whole) (map_more strip_carriage_return parts part ∙ ap (λ (b : List ℕ). map strip_carriage_return parts ++ b ∷ []) (sym e)) ∙ map_more Whole (map strip_carriage_return parts) bytes
+length_ended : (parts : List (List ℕ)) (part : List ℕ) → length (all_ended (parts ++ part ∷ [])) ≡ length (all_ended parts) + (length part + 1)
+length_ended parts part = ap length (sym (append-nil (all_ended (parts ++ part ∷ []))) ∙ ended_more parts part []) ∙ length-append (all_ended parts) (part ++ 10 ∷ []) ∙ ap (λ (k : ℕ). length (all_ended parts) + k) (length_more part 10)
+
+spent_more : (parts : List (List ℕ)) (part rest : List ℕ) (room room' all : ℕ) → length (all_ended parts) + room ≡ all → rest ≡ part ++ 10 ∷ after_line rest → room' + length rest ≡ room + length (after_line rest)
+    → length (all_ended (parts ++ part ∷ [])) + room' ≡ all
+spent_more parts part rest room room' all spent is spends =
+    let whole = length_ended parts part in
+    let cut : length rest ≡ length part + suc (length (after_line rest)) = ap length is ∙ length-append part (10 ∷ after_line rest) in
+    omega arith
 
 -- one line more was read
-pub prefix_more : (all : ℕ) (text rest bytes : List ℕ) (number room room' : ℕ) → IsPrefixOf all text rest number room → is_ended rest ≡ true → pieces room rest ≡ Whole bytes ∷ pieces room' (after_line rest)
-    → IsPrefixOf all text (after_line rest) (number + 1) room'
-prefix_more all text rest bytes number room room' f e p =
+first_more : (all : ℕ) (text rest : List ℕ) (lines : List (List ℕ)) (bytes : List ℕ) (room room' : ℕ) → AreFirstLines all text lines room rest → is_ended rest ≡ true → pieces room rest ≡ Whole bytes ∷ pieces room' (after_line rest)
+    → room' + length rest ≡ room + length (after_line rest) → AreFirstLines all text (lines ++ bytes ∷ []) room' (after_line rest)
+first_more all text rest lines bytes room room' f e p spends =
     let c = is_cut room room' rest bytes e p in
     record {
       parts = f.parts ++ c.part ∷ [];
       unended_parts = unended_more f.parts c.part f.unended_parts c.unended_part;
+      are_lines = ap (λ (l : List (List ℕ)). l ++ bytes ∷ []) f.are_lines ∙ ap (λ (b : List ℕ). map strip_carriage_return f.parts ++ b ∷ []) c.bytes_are ∙ sym (map_more strip_carriage_return f.parts c.part);
       is_text = f.is_text ∙ ap (λ (l : List ℕ). all_ended f.parts ++ l) c.is_rest ∙ sym (ended_more f.parts c.part (after_line rest));
-      count = length_more f.parts c.part ∙ ap (λ (k : ℕ). k + 1) f.count;
-      in_pieces = f.in_pieces ∙ ap (λ (l : List Piece). map Whole (map strip_carriage_return f.parts) ++ l) p ∙ sym (append_assoc (map Whole (map strip_carriage_return f.parts)) (Whole bytes ∷ []) (pieces room' (after_line rest)))
-          ∙ ap (λ (l : List Piece). l ++ pieces room' (after_line rest)) (sym (lines_more f.parts c.part bytes c.bytes_are));
+      spent = spent_more f.parts c.part rest room room' all f.spent c.is_rest spends;
+      first = f.first ∙ ap (λ (l : List Piece). map Whole lines ++ l) p ∙ sym (append_assoc (map Whole lines) (Whole bytes ∷ []) (pieces room' (after_line rest)))
+          ∙ ap (λ (l : List Piece). l ++ pieces room' (after_line rest)) (sym (map_more Whole lines bytes));
     }
 
 some_last : (x : List ℕ) (ps : List (List ℕ)) → 0 < length ps → last_part (x ∷ ps) ≡ last_part ps
@@ -130,28 +120,55 @@ behind_parts (x ∷ parts) rest u h =
     ∙ behind_parts parts rest u.1 h
 
 -- What was read where the shelf failed: the lines that were given, and bytes without a line end behind them.
-pub read_to : (all : ℕ) (text rest pending l : List ℕ) (left : Option (List ℕ)) (number room : ℕ) → IsPrefixOf all text rest number room → rest ≡ pending ++ l → left ≡ Some l → position is_line_end pending ≡ None → length pending ≤ longest_line
-    → IsReadTo all text left
-read_to all text rest pending l left number room f is e h short =
+failed_behind : (all : ℕ) (text rest pending l : List ℕ) (lines : List (List ℕ)) (room : ℕ) → AreFirstLines all text lines room rest → rest ≡ pending ++ l → position is_line_end pending ≡ None → length pending ≤ min room longest_line
+    → IsReadWithLines all text lines (Some l)
+failed_behind all text rest pending l lines room f is h few =
     let none = unended pending h in
-    record {
-      read = all_ended f.parts ++ pending;
-      rest = l;
-      left_is = e;
-      is_text = f.is_text ∙ ap (λ (x : List ℕ). all_ended f.parts ++ x) is ∙ sym (append_assoc (all_ended f.parts) pending l);
-      more = pieces room rest;
-      first = f.in_pieces ∙ ap (λ (x : List (List ℕ)). map Whole x ++ pieces room rest) (sym (ended_parts f.parts pending f.unended_parts none));
-      short = let same : length (behind_line_ends (all_ended f.parts ++ pending)) ≡ length pending = ap length (behind_parts f.parts pending f.unended_parts none) in omega arith;
-    }
+    let ended : ended_lines (all_ended f.parts ++ pending) ≡ lines = ended_parts f.parts pending f.unended_parts none ∙ sym f.are_lines in (
+      record {
+        read = all_ended f.parts ++ pending;
+        rest = l;
+        left_is = refl;
+        is_text = f.is_text ∙ ap (λ (x : List ℕ). all_ended f.parts ++ x) is ∙ sym (append_assoc (all_ended f.parts) pending l);
+        more = pieces room rest;
+        first = f.first ∙ ap (λ (x : List (List ℕ)). map Whole x ++ pieces room rest) (sym ended);
+        short = let same : length (behind_line_ends (all_ended f.parts ++ pending)) ≡ length pending = ap length (behind_parts f.parts pending f.unended_parts none) in omega (arith, few);
+        within = let whole = length-append (all_ended f.parts) pending in omega (arith, few, f.spent);
+      },
+      ended,
+    )
 
--- the lines that are ended among what was read then are those that were given
-pub lines_read : (all : ℕ) (text rest pending l : List ℕ) (left : Option (List ℕ)) (number room : ℕ) (f : IsPrefixOf all text rest number room) (is : rest ≡ pending ++ l) (e : left ≡ Some l) (h : position is_line_end pending ≡ None) (short : length pending ≤ longest_line)
-    → ended_lines (read_to all text rest pending l left number room f is e h short).read ≡ map strip_carriage_return f.parts
-unfolding read_to
-lines_read all text rest pending l left number room f is e h short = ended_parts f.parts pending f.unended_parts (unended pending h)
+-- one line more was given
+one_given : (p p' : List ℕ) (room room' : ℕ) (left left' : Option (List ℕ)) (line : Line) → Tells room (with_front p left) (Ok (Some line)) room' (with_front p' left') → Spends room (with_front p left) room' (with_front p' left') → line.ended ≡ true
+    → (all : ℕ) (text : List ℕ) (lines : List (List ℕ)) → AreBefore all text lines room p left → AreBefore all text (lines ++ line.bytes ∷ []) room' p' left'
+one_given p p' room room' None left' line t s ended all text lines g = absurd g
+one_given p p' room room' (Some l) None line t s ended all text lines g = let f = t.1 in cc
+one_given p p' room room' (Some l) (Some l') line t s ended all text lines g =
+    let is : p' ++ l' ≡ after_line (p ++ l) = (let f = t.1 in cc) in
+    let spends : room' + length (p ++ l) ≡ room + length (after_line (p ++ l)) = s ∙ ap (λ (x : List ℕ). room + length x) is in
+    subst (λ (x : List ℕ). AreFirstLines all text (lines ++ line.bytes ∷ []) room' x) (sym is)
+    (first_more all text (p ++ l) lines line.bytes room room' g (sym t.2 ∙ ended) t.0 spends)
 
--- the lines that were read, with one more
-pub lines_of_more : (all : ℕ) (text rest bytes : List ℕ) (number room room' : ℕ) (f : IsPrefixOf all text rest number room) (e : is_ended rest ≡ true) (p : pieces room rest ≡ Whole bytes ∷ pieces room' (after_line rest))
-    → map Whole (map strip_carriage_return (prefix_more all text rest bytes number room room' f e p).parts) ≡ map Whole (map strip_carriage_return f.parts) ++ Whole bytes ∷ []
-unfolding prefix_more
-lines_of_more all text rest bytes number room room' f e p = lines_more f.parts (is_cut room room' rest bytes e p).part bytes (is_cut room room' rest bytes e p).bytes_are
+-- more was read, and no line given
+before_still : (p p' : List ℕ) (room : ℕ) (left left' : Option (List ℕ)) → with_front p' left' ≡ with_front p left
+    → (all : ℕ) (text : List ℕ) (lines : List (List ℕ)) → AreBefore all text lines room p left → AreBefore all text lines room p' left'
+before_still p p' room None left' e all text lines g = absurd g
+before_still p p' room (Some l) None e all text lines g = cc
+before_still p p' room (Some l) (Some l') e all text lines g = let is : p ++ l ≡ p' ++ l' = cc in subst (λ (x : List ℕ). AreFirstLines all text lines room x) is g
+
+-- what a call gave, behind what it read
+pub line_goes : (p now p' : List ℕ) (room room' : ℕ) (left left' : Option (List ℕ)) (answer : Result Bool LineFault) (line : Line) → with_front now left' ≡ with_front p left
+    → Tells room (with_front now left') (line_read answer line) room' (with_front p' left') → Spends room (with_front now left') room' (with_front p' left')
+    → IfOk (line_read answer line) (λ o. IfSome o (λ given. given.ended ≡ true → (all : ℕ) (text : List ℕ) (lines : List (List ℕ)) → AreBefore all text lines room p left → AreBefore all text (lines ++ given.bytes ∷ []) room' p' left'))
+line_goes p now p' room room' left left' (Ok true) line e t s = λ ended all text lines g. one_given now p' room room' left' left' line t s ended all text lines (before_still p now room left left' e all text lines g)
+line_goes p now p' room room' left left' (Ok false) line e t s = tt
+line_goes p now p' room room' left left' (Err error) line e t s = tt
+
+-- the shelf failed
+pub failed_at : (p now : List ℕ) (room : ℕ) (left left' : Option (List ℕ)) → with_front now left' ≡ with_front p left → position is_line_end now ≡ None → length now ≤ min room longest_line
+    → (all : ℕ) (text : List ℕ) (lines : List (List ℕ)) → AreBefore all text lines room p left → IsReadWithLines all text lines left'
+failed_at p now room None left' e none few all text lines g = absurd g
+failed_at p now room (Some l) None e none few all text lines g = cc
+failed_at p now room (Some l) (Some l') e none few all text lines g =
+    let is : p ++ l ≡ now ++ l' = cc in
+    failed_behind all text (p ++ l) now l' lines room g is none few

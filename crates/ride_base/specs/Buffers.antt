@@ -1,4 +1,5 @@
-use Rattle.std.specs.Prelude.{◌≡◌, ℕ, ◌<◌, ◌≤◌, ◌++◌, List, [], length, take, position, Option, Some, None, ◌&&◌, nat_lt, nat_le, cond}
+use Rattle.std.specs.Prelude.{◌≡◌, ℕ, ◌+◌, ◌-◌, ◌<◌, ◌≤◌, ◌++◌, List, [], length, take, position, Option, Some, None, ◌&&◌, nat_lt, nat_le, cond, min}
+use Rattle.std.specs.List.{position_or_len}
 use Rattle.ride_base.specs.Outside.{Moves}
 use Rattle.ride_base.specs.Pieces.{is_line_end, longest_line}
 use Rattle.ride_base.specs.Reader.{Stop, Long, Large}
@@ -33,6 +34,24 @@ abbrev pub MayEnd : Front → Option (List ℕ) → Type 0
 MayEnd (Ended at) left = Unit {0}
 MayEnd Past left = Unit {0}
 MayEnd Last left = IsAtEnd left
+
+-- the most bytes that one read asks for
+abbrev pub longest_read : ℕ
+longest_read = 16384
+
+-- Where bytes came, what was held and what came go at most one read past the first line end of the text, and past `most` bytes where
+-- the line is longer. It is said where the text is told.
+abbrev pub IsWithinARead : (most : ℕ) (held : List ℕ) (left left' : Option (List ℕ)) → Type 0
+IsWithinARead most held None left' = Unit {0}
+IsWithinARead most held (Some left) None = ⊥
+IsWithinARead most held (Some left) (Some left') =
+    length left' < length left → length held + (length left - length left') ≤ min most (position_or_len is_line_end (held ++ left)) + longest_read
+
+-- at most so many bytes came, where that is told
+abbrev pub CameAtMost : ℕ → Option (List ℕ) → Option (List ℕ) → Type 0
+CameAtMost most None left' = Unit {0}
+CameAtMost most (Some left) None = ⊥
+CameAtMost most (Some left) (Some left') = length left ≤ length left' + most
 
 -- why a line of that length, which takes so many bytes with its end, is refused where there is room for so many
 abbrev pub stop_of : (length size room : ℕ) → Option Stop

@@ -1,4 +1,4 @@
-use Rattle.std.specs.Prelude.{◌≡◌, ℕ, ◌-◌, ◌^◌, ◌==◌, ◌||◌, ◌&&◌, not, min, Bool, cond, List, [], ◌∷◌, length, filter, Option, Some, None, codes, refl}
+use Rattle.std.specs.Prelude.{◌≡◌, ℕ, ◌-◌, ◌^◌, ◌==◌, ◌||◌, ◌&&◌, not, min, Bool, false, cond, List, [], ◌∷◌, length, filter, Option, Some, None, codes, refl}
 use Rattle.std.specs.List.{slice_split}
 use Rattle.ride_base.specs.Digits.{are_digits, value_after}
 
@@ -24,9 +24,18 @@ is_number bytes = has_bytes bytes && are_digits bytes
 abbrev pub value_of : List ℕ → ℕ
 value_of digits = value_after 0 digits
 
+-- a number, cut at the largest of 64 bits
+abbrev pub capped : ℕ → ℕ
+capped n = min n (2 ^ 64 - 1)
+
 -- the number that digits spell, cut at the largest of 64 bits
 abbrev pub capped_of : List ℕ → Option ℕ
-capped_of bytes = cond (is_number bytes) (Some (min (value_of bytes) (2 ^ 64 - 1))) None
+capped_of bytes = cond (is_number bytes) (Some (capped (value_of bytes))) None
+
+-- a field by which a line is a comment: its first byte is `c`
+abbrev pub begins_comment : List ℕ → Bool
+begins_comment [] = false
+begins_comment (b ∷ bs) = b == 99
 
 three_fields : fields_of (32 ∷ 97 ∷ 9 ∷ 32 ∷ 49 ∷ 50 ∷ 32 ∷ 45 ∷ 9 ∷ []) ≡ (97 ∷ []) ∷ (49 ∷ 50 ∷ []) ∷ (45 ∷ []) ∷ []
 three_fields = refl

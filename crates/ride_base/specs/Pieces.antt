@@ -6,6 +6,10 @@ use Rattle.std.specs.Str.Lines.{strip_carriage_return}
 abbrev pub longest_line : ℕ
 longest_line = 65536
 
+-- the most bytes of a text of lines
+abbrev pub largest_text : ℕ
+largest_text = 1073741824
+
 abbrev pub is_line_end : ℕ → Bool
 is_line_end b = b == 10
 

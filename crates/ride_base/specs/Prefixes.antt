@@ -1,6 +1,8 @@
-use Rattle.std.specs.Prelude.{◌≡◌, ℕ, ◌≤◌, List, [], ◌∷◌, ◌++◌, map, length, Option, Some, refl}
-use Rattle.std.specs.List.{slice_split}
+use Rattle.std.specs.Prelude.{◌≡◌, ℕ, ◌+◌, ◌≤◌, false, List, [], ◌∷◌, ◌++◌, map, length, Option, Some, None, refl}
+use Rattle.std.specs.List.{All, slice_split}
+use Rattle.std.specs.Str.Lines.{strip_carriage_return}
 use Rattle.ride_base.specs.Pieces.{Piece, Whole, pieces, ended_lines, is_line_end, longest_line}
+use Rattle.ride_base.specs.Reader.{Reader}
 
 -- Prefixes of a text that is read in pieces.
 
@@ -14,7 +16,7 @@ abbrev pub behind_line_ends : List ℕ → List ℕ
 behind_line_ends text = last_part (slice_split is_line_end text)
 
 -- A text that may have so many bytes was read so far, and the rest is left. The lines that are ended among the bytes read are the first
--- of the text, and behind them no more bytes were read than a line may have.
+-- of the text, behind them no more bytes were read than a line may have, and in all no more than the text may have.
 pub record IsReadTo (room : ℕ) (text : List ℕ) (left : Option (List ℕ)) : Type 0 where
   pub read : List ℕ
   pub rest : List ℕ
@@ -23,6 +25,40 @@ pub record IsReadTo (room : ℕ) (text : List ℕ) (left : Option (List ℕ)) : 
   pub more : List Piece
   pub first : pieces room text ≡ map Whole (ended_lines read) ++ more
   pub short : length (behind_line_ends read) ≤ longest_line
+  pub within : length read ≤ room
+
+-- parts of a text, each with a line end behind it
+abbrev pub all_ended : List (List ℕ) → List ℕ
+all_ended [] = []
+all_ended (part ∷ parts) = part ++ 10 ∷ all_ended parts
+
+-- no line end is in them
+abbrev pub AreUnended : List (List ℕ) → Type 0
+AreUnended [] = Unit {0}
+AreUnended (part ∷ parts) = All (λ b. is_line_end b ≡ false) part × AreUnended parts
+
+-- These are the first lines of a text that may have `all` bytes, each with a line end behind it. The rest of the text stands behind
+-- them, and may have `room` bytes.
+pub record AreFirstLines (all : ℕ) (text : List ℕ) (lines : List (List ℕ)) (room : ℕ) (rest : List ℕ) : Type 0 where
+  pub parts : List (List ℕ)
+  pub unended_parts : AreUnended parts
+  pub are_lines : lines ≡ map strip_carriage_return parts
+  pub is_text : text ≡ all_ended parts ++ rest
+  pub spent : length (all_ended parts) + room ≡ all
+  pub first : pieces all text ≡ map Whole lines ++ pieces room rest
+
+-- the same where the rest is what was read before and what is left
+abbrev pub AreBefore : (all : ℕ) → (text : List ℕ) → (lines : List (List ℕ)) → (room : ℕ) → (pending : List ℕ) → (left : Option (List ℕ)) → Type 0
+AreBefore all text lines room pending None = ⊥
+AreBefore all text lines room pending (Some left) = AreFirstLines all text lines room (pending ++ left)
+
+-- a reader gave these lines of a text and no others, and the rest is to be given
+abbrev pub AreGiven : (all : ℕ) → (text : List ℕ) → (lines : List (List ℕ)) → Reader → (left : Option (List ℕ)) → Type 0
+AreGiven all text lines reader left = AreBefore all text lines reader.room reader.pending left
+
+-- the shelf failed where exactly these lines are ended among what was read
+abbrev pub IsReadWithLines : (all : ℕ) → (text : List ℕ) → (lines : List (List ℕ)) → (left : Option (List ℕ)) → Type 0
+IsReadWithLines all text lines left = (r : IsReadTo all text left) × (ended_lines r.read ≡ lines)
 
 behind_two : behind_line_ends (97 ∷ 10 ∷ 98 ∷ 10 ∷ 99 ∷ []) ≡ 99 ∷ []
 behind_two = refl

@@ -1,5 +1,6 @@
-use Rattle.std.specs.Prelude.{◌≡◌, ℕ, ◌+◌, ◌<◌, ◌≤◌, ◌++◌, List, [], ◌∷◌, length, Option, Some, None, Result, Ok, Err}
+use Rattle.std.specs.Prelude.{◌≡◌, ℕ, ◌+◌, ◌<◌, ◌≤◌, ◌++◌, not, Bool, true, false, List, [], ◌∷◌, length, Option, Some, None, Result, Ok, Err}
 use Rattle.ride_base.specs.Pieces.{Whole, TooLong, TooLarge, pieces, after_line, is_ended}
+use Rattle.ride_base.specs.Buffers.{with_front}
 use Rattle.ride_base.specs.Reader.{Reader, Stop, Long as StopLong, Large as StopLarge}
 use Rattle.ride_base.specs.declared.buffer.ReadFault.{ReadFault}
 use Rattle.ride_base.specs.declared.buffer.ReadFault.TheVariants.{Failed, NoMemory as ReadNoMemory}
@@ -9,8 +10,7 @@ use Rattle.ride_base.specs.declared.lines.LineFault.TheVariants.{Fault, Long, La
 
 -- what has not been given: what was read before, and what is left
 abbrev pub unread : Reader → Option (List ℕ) → Option (List ℕ)
-unread reader None = None
-unread reader (Some left) = Some (reader.pending ++ left)
+unread reader left = with_front reader.pending left
 
 -- What an answer says of the text that was not given before, where it is told, and what then is not given. `room` and `room'` are
 -- the bytes that may be given before and after.
@@ -23,6 +23,18 @@ Tells room (Some text) (Err Fault) room' after = after ≡ Some text
 Tells room (Some text) (Err Long) room' after = (pieces room text ≡ TooLong ∷ []) × (after ≡ Some text)
 Tells room (Some text) (Err Large) room' after = (pieces room text ≡ TooLarge ∷ []) × (after ≡ Some text)
 Tells room (Some text) (Err NoMemory) room' after = after ≡ Some text
+
+-- what a call answers that reads a line into one that is there
+abbrev pub line_read : Result Bool LineFault → Line → Result (Option Line) LineFault
+line_read (Ok true) line = Ok (Some line)
+line_read (Ok false) line = Ok None
+line_read (Err error) line = Err error
+
+-- what is given is taken from the bytes that may still be given, where the text is told
+abbrev pub Spends : ℕ → Option (List ℕ) → ℕ → Option (List ℕ) → Type 0
+Spends room None room' after = Unit {0}
+Spends room (Some text) room' None = ⊥
+Spends room (Some text) room' (Some after) = room' + length text ≡ room + length after
 
 -- what an answer says of the count of lines, and of the bytes that may still be given
 abbrev pub Counts : Reader → Result (Option Line) LineFault → Reader → Type 0
@@ -37,6 +49,12 @@ stop_after (Err Fault) = None
 stop_after (Err Long) = Some StopLong
 stop_after (Err Large) = Some StopLarge
 stop_after (Err NoMemory) = None
+
+-- whether a reader gave all after an answer, where it had or hadn't before
+abbrev pub over_after : Bool → Result (Option Line) LineFault → Bool
+over_after before (Ok None) = true
+over_after before (Ok (Some line)) = not line.ended
+over_after before (Err error) = before
 
 -- what a stopped reader answers
 abbrev pub fault_of : Stop → LineFault

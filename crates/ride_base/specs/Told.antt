@@ -1,4 +1,4 @@
-use Rattle.std.specs.Prelude.{ℕ, ◌++◌, List, Option, Some, None}
+use Rattle.std.specs.Prelude.{ℕ, ◌++◌, cond, List, [], Option, Some, None}
 use Rattle.ride_base.specs.Pieces.{Piece, pieces}
 use Rattle.ride_base.specs.Reader.{Reader}
 
@@ -10,4 +10,4 @@ WhereTold (Some told) fact = fact told
 -- the pieces of a text that a reader has not given, where it is told
 abbrev pub ahead : Reader → Option (List ℕ) → Option (List Piece)
 ahead reader None = None
-ahead reader (Some left) = Some (pieces reader.room (reader.pending ++ left))
+ahead reader (Some left) = Some (cond reader.over [] (pieces reader.room (reader.pending ++ left)))

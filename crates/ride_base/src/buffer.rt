@@ -3,7 +3,7 @@ ghost use Rattle.std.specs.List.{position_or_len};
 ghost use Rattle.std.specs.Str.Lines.{strip_carriage_return};
 ghost use Rattle.ride_base.specs.Outside.{Rose, OnlyRead};
 ghost use Rattle.ride_base.specs.Pieces.{is_line_end};
-ghost use Rattle.ride_base.specs.Buffers.{with_front, Gains, FrontOf, MayEnd};
+ghost use Rattle.ride_base.specs.Buffers.{with_front, Gains, FrontOf, MayEnd, IsWithinARead, longest_read};
 
 use crate::items::{Items, NoMemory};
 use crate::outside::{Failed, Shelf};
@@ -86,6 +86,7 @@ impl Buffer {
     fn read<S: Shelf>(&mut self, shelf: &mut S) -> Result<usize, ReadFault>
         requires { S.IsBegun shelf.old }
         ensures ok { IfOk result (λ k. Gains self.old self.new (S.left shelf.old) (S.left shelf.new) k) }
+        ensures small { IfOk result (λ k. k ≤ longest_read) }
         ensures err { OnErr result ((self.new ≡ self.old) × (S.left shelf.new ≡ S.left shelf.old)) }
         ensures rose { result ≡ Err ReadFault.Failed → Rose (S.faults shelf.old) (S.faults shelf.new) }
         ensures surely { S.IsSure shelf.old → result ≡ Err ReadFault.Failed → ⊥ }
@@ -106,6 +107,7 @@ impl Buffer {
         ensures rose { result ≡ Err ReadFault.Failed → Rose (S.faults shelf.old) (S.faults shelf.new) }
         ensures surely { S.IsSure shelf.old → result ≡ Err ReadFault.Failed → ⊥ }
         ensures holds { IsSome (position is_line_end self.old) → shelf.new ≡ shelf.old }
+        ensures near { IsWithinARead most self.old (S.left shelf.old) (S.left shelf.new) }
         ensures shelf { OnlyRead S.IsBegun S.held S.names S.IsSure S.faults shelf.old shelf.new }
     {
         loop {
@@ -121,29 +123,31 @@ impl Buffer {
         }
     }
 
-    /// Takes the line of so many bytes and its end off the front. The line loses one CR at its end.
-    pub fn cut_line(&mut self, alloc: Global, at: usize) -> Result<Items<u8>, NoMemory>
+    /// Takes the line of so many bytes and its end off the front, into `line`. The line loses one CR at its end.
+    pub fn cut_line(&mut self, at: usize, line: &mut Items<u8>) -> Result<(), NoMemory>
         requires { position is_line_end self.old ≡ Some at }
-        ensures ok { IfOk result (λ line. (line ≡ strip_carriage_return (take at self.old)) × (self.new ≡ drop (at + 1) self.old)) }
+        ensures line { OnOk result (line.new ≡ strip_carriage_return (take at self.old)) }
+        ensures rest { OnOk result (self.new ≡ drop (at + 1) self.old) }
         ensures err { OnErr result (self.new ≡ self.old) }
     {
         let pending = &self.bytes[self.start..];
-        let line = Items::from_slice(alloc, stripped(&pending[..at]))?;
+        line.refill(stripped(&pending[..at]))?;
         self.start += at + 1;
         self.searched = 0;
-        Ok(line)
+        Ok(())
     }
 
-    /// Takes all the bytes.
-    pub fn cut_all(&mut self, alloc: Global) -> Result<Items<u8>, NoMemory>
-        ensures ok { IfOk result (λ line. (line ≡ self.old) × (self.new ≡ [])) }
+    /// Takes all the bytes, into `line`.
+    pub fn cut_all(&mut self, line: &mut Items<u8>) -> Result<(), NoMemory>
+        ensures line { OnOk result (line.new ≡ self.old) }
+        ensures rest { OnOk result (self.new ≡ []) }
         ensures err { OnErr result (self.new ≡ self.old) }
     {
-        let line = Items::from_slice(alloc, &self.bytes[self.start..])?;
+        line.refill(&self.bytes[self.start..])?;
         self.bytes.clear();
         self.start = 0;
         self.searched = 0;
-        Ok(line)
+        Ok(())
     }
 }
 
@@ -180,6 +184,7 @@ fn stripped(bytes: &[u8]) -> &[u8]
 pub fn read_piece<S: Shelf>(shelf: &mut S, bytes: &mut Vec<u8>) -> Result<usize, ReadFault>
     requires { S.IsBegun shelf.old }
     ensures ok { IfOk result (λ k. Gains bytes.old.items bytes.new.items (S.left shelf.old) (S.left shelf.new) k) }
+    ensures small { IfOk result (λ k. k ≤ longest_read) }
     ensures err { OnErr result ((bytes.new.items ≡ bytes.old.items) × (S.left shelf.new ≡ S.left shelf.old)) }
     ensures rose { result ≡ Err ReadFault.Failed → Rose (S.faults shelf.old) (S.faults shelf.new) }
     ensures surely { S.IsSure shelf.old → result ≡ Err ReadFault.Failed → ⊥ }

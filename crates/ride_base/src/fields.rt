@@ -1,6 +1,6 @@
 ghost use Rattle.std.specs.Prelude.{◌≡◌, ◌<◌, ◌≤◌, length, [], ◌∷◌, position, Some, MatchOption, IfSome};
 ghost use Rattle.std.specs.List.{position_or_len};
-ghost use Rattle.ride_base.specs.Fields.{fields_of, is_blank as is_blank_of, is_unblank, capped_of};
+ghost use Rattle.ride_base.specs.Fields.{fields_of, is_blank as is_blank_of, is_unblank, begins_comment as begins_comment_of, capped_of};
 
 /// The first field of a line, and what stands behind it. Fields are parted by one or more spaces or tabs. None exactly where no field
 /// is left.
@@ -41,10 +41,21 @@ fn first_blank(bytes: &[u8]) -> Option<usize>
     bytes.iter().position(|byte| is_blank(*byte))
 }
 
-fn is_blank(byte: u8) -> bool
+/// Whether it is a space or a tab.
+pub fn is_blank(byte: u8) -> bool
     ensures { result ≡ is_blank_of byte }
 {
     byte == b' ' || byte == b'\t'
+}
+
+/// Whether a line whose first field this is is a comment: the field begins with `c`.
+pub fn begins_comment(field: &[u8]) -> bool
+    ensures { result ≡ begins_comment_of field.now }
+{
+    match field.first() {
+        Some(byte) => *byte == b'c',
+        None => false,
+    }
 }
 
 /// The number that decimal digits spell, leading zeros among them, or 2^64 - 1 where it is larger. None exactly where the text is

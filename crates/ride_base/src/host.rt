@@ -23,6 +23,7 @@ impl<'a, R: Files> HostShelf<'a, R> {
     pub fn new(rt: &'a R, alloc: Global) -> HostShelf<'a, R>
         ensures names { ⟦<HostShelf<'a, R> as Shelf>⟧.names result ≡ [] }
         ensures faults { ⟦<HostShelf<'a, R> as Shelf>⟧.faults result ≡ 0 }
+        ensures unbegun { ⟦<HostShelf<'a, R> as Shelf>⟧.IsBegun result → ⊥ }
     {
         HostShelf {
             rt,

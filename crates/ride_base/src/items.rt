@@ -81,6 +81,17 @@ impl<T: Copy> Items<T> {
         held.extend_from_slice(items)?;
         Ok(Items { held })
     }
+
+    /// Holds a copy of the items of a slice in place of its own, in the memory that it has where that is enough. A refused copy
+    /// leaves it empty.
+    pub fn refill(&mut self, items: &[T]) -> Result<(), NoMemory>
+        ensures ok { OnOk result (self.new ≡ items.now) }
+        ensures err { OnErr result (self.new ≡ []) }
+    {
+        self.held.clear();
+        self.held.extend_from_slice(items)?;
+        Ok(())
+    }
 }
 
 impl<T: PartialEq> PartialEq for Items<T> {

@@ -13,10 +13,10 @@ mod outside;
 mod texts;
 
 pub use digits::number;
-pub use fields::{capped_number, next_field};
+pub use fields::{begins_comment, capped_number, is_blank, next_field};
 pub use host::{HostShelf, HostSink};
 pub use items::{Items, NoMemory};
-pub use lines::{Line, LineFault, Lines};
+pub use lines::{LARGEST_TEXT, Line, LineFault, Lines};
 pub use memory::{MemoryShelf, MemorySink};
 pub use numbers::{RequestNo, VehicleNo};
 pub use outside::{BeginFault, Failed, Shelf, Sink, write_whole};

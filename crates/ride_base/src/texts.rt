@@ -1,5 +1,6 @@
-ghost use Rattle.std.specs.Prelude.{◌≡◌, ℕ, ◌<◌, ◌≤◌, List, length, IfOk, Err};
+ghost use Rattle.std.specs.Prelude.{◌≡◌, ℕ, ◌+◌, ◌<◌, ◌≤◌, List, length, IfOk, Err};
 ghost use Rattle.ride_base.specs.Outside.{Rose, OnlyRead};
+ghost use Rattle.ride_base.specs.Buffers.{CameAtMost, longest_read};
 ghost use Rattle.ride_base.specs.Reading.{TellsWhole};
 
 use crate::buffer::read_piece;
@@ -12,6 +13,7 @@ use std::alloc::Global;
 pub fn whole<S: Shelf>(alloc: Global, shelf: &mut S, limit: u64) -> Result<Items<u8>, LineFault>
     requires { S.IsBegun shelf.old }
     ensures tells { TellsWhole (S.left shelf.old) limit result (S.left shelf.new) }
+    ensures near { CameAtMost (limit + longest_read) (S.left shelf.old) (S.left shelf.new) }
     ensures short { IfOk result (λ text. length text ≤ limit) }
     ensures rose { result ≡ Err LineFault.Fault → Rose (S.faults shelf.old) (S.faults shelf.new) }
     ensures surely { S.IsSure shelf.old → result ≡ Err LineFault.Fault → ⊥ }

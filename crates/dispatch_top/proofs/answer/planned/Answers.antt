@@ -22,13 +22,13 @@ promise-promise-requires-clause-arrive g c = (offer_soon c.args.graph.now c.args
 pub inserted-requires-clause-as_many : goal.inserted-requires-clause-as_many
 inserted-requires-clause-as_many g c =
     subst (λ (xs : List Stop). length c.in_ok-walks.walks ≡ length (changed_ends xs c.front_at_first-front.result c.args.request.now c.args.offer.now.at)) c.stops-stops.ensures.value
-    (walks_many c.args.graph.now (changed_ends c.stops-stops.result.now c.front_at_first-front.result c.args.request.now c.args.offer.now.at) c.in_ok-walks.walks c.in_ok-walks.ensures)
+    (walks_many c.args.graph.now (changed_ends c.stops-stops.result.now c.front_at_first-front.result c.args.request.now c.args.offer.now.at) c.in_ok-walks.walks c.in_ok-walks.ensures.least)
 
 pub inserted-requires-clause-short : goal.inserted-requires-clause-short
-inserted-requires-clause-short g c = walks_short c.args.graph.now c.requires.ways.to_pickup.is_reach.reached.graph (changed_ends c.stops-stops.result.now c.front_at_first-front.result c.args.request.now c.args.offer.now.at) c.in_ok-walks.walks c.in_ok-walks.ensures
+inserted-requires-clause-short g c = walks_short c.args.graph.now c.requires.ways.to_pickup.is_reach.reached.graph (changed_ends c.stops-stops.result.now c.front_at_first-front.result c.args.request.now c.args.offer.now.at) c.in_ok-walks.walks c.in_ok-walks.ensures.least
 
-pub returns : goal.returns
-returns g c =
+pub returns-clause-planned : goal.returns-clause-planned
+returns-clause-planned g c =
     as_planned c.args.graph.now c.args.fleet.now c.args.request.now c.args.offer.now c.in_ok-walks.walks c.in_ok-new.new c.unwrap-direct.result c.car.result.now c.params-params.result.now c.schedule-schedule.result.now c.stops-stops.result.now c.front_at_first-front.result c.promise-promise.result
     c.car.ensures c.params-params.ensures.clock c.params-params.ensures.value c.schedule-schedule.ensures c.stops-stops.ensures.value c.front_at_first-front.ensures.value c.promise-promise.ensures.value
-    (far_is c.args.graph.now c.args.request.now.pickup c.args.request.now.dropoff c.from_pickup.result c.unwrap-direct.result c.unwrap-direct.ensures (c.from_pickup.ensures c.args.graph.now c.args.request.now c.requires.ways)) c.in_ok-walks.ensures c.in_ok-new.ensures
+    (far_is c.args.graph.now c.args.request.now.pickup c.args.request.now.dropoff c.from_pickup.result c.unwrap-direct.result c.unwrap-direct.ensures (c.from_pickup.ensures c.args.graph.now c.args.request.now c.requires.ways)) c.in_ok-walks.ensures.least c.in_ok-new.ensures

@@ -1,4 +1,5 @@
-use Rattle.std.proofs.Common.{None, refl, sym, ◌∙◌, rules, arith}
+use Rattle.std.proofs.Common.{None, Err, refl, sym, ap, ◌∙◌, rules, arith}
+use Rattle.ride_base.specs.Pieces.{largest_text}
 use Rattle.ride_base.proofs.Shelves.{only_read-trans}
 use Rattle.dispatch_top.proofs.Streaming.{first_way, further, ends_before_line, ends_with_none, ends_with_line, ends_in_ride, ends_at_once, still_least, handed_on}
 use Rattle.dispatch_top.specs.declared.ending.Ending.TheVariants.{NoMemory}
@@ -10,15 +11,18 @@ returns-in_err-fleet-clause-streamed g c = let e = handed_on c.from_residual.res
 pub lines-init : goal.lines-init
 lines-init g c = record {
   shelf = record { begun = c.requires.begun; holds = refl; named = refl; counted = omega arith; sure = λ s. s; silent = λ s. refl };
-  on_its_way = first_way c.args.graph.now c.args.params c.args.vehicles.now c.new-numbers.result c.in_ok-fleet.fleet c.new-lines.result (g.S.Shelf.left c.args.shelf.now) (g.K.Sink.taken c.args.sink.now) c.in_ok-fleet.ensures c.new-numbers.ensures.empty c.new-lines.ensures;
+  on_its_way = first_way c.args.graph.now c.args.params c.args.vehicles.now c.new-numbers.result c.in_ok-fleet.fleet c.new-lines.result (g.S.Shelf.left c.args.shelf.now) (g.K.Sink.taken c.args.sink.now) c.in_ok-fleet.ensures c.new-numbers.ensures.empty c.new-lines.ensures.fresh;
   counted = search rules;
+  asks = refl;
   unstopped = search rules;
+  goes_on = search rules;
   given = search rules;
 }
 
 pub returns-in_err-line-clause-streamed : goal.returns-in_err-line-clause-streamed
 returns-in_err-line-clause-streamed g c = let e = handed_on c.from_residual-in_err-line.result c.in_err-line.field-0.0 c.from_residual-in_err-line.ensures in
-    rw e (ends_before_line c.args.graph.now c.args.params c.args.vehicles.now _ _ (g.S.Shelf.left c.args.shelf.now) c.next_line.new.lines _ (g.S.Shelf.left c.next_line.new.shelf) _ _ _ _ c.in_err-line.field-0.0 c.requires.vehicles c.lines.invariant.on_its_way c.in_err-line.ensures.given)
+    rw e (ends_before_line c.args.graph.now c.args.params c.args.vehicles.now _ _ (g.S.Shelf.left c.args.shelf.now) c.lines.lines c.next_line.new.lines (g.S.Shelf.left c.lines.shelf) (g.S.Shelf.left c.next_line.new.shelf) _ _ _ c.in_err-line.field-0.0 c.requires.vehicles c.lines.invariant.on_its_way c.in_err-line.ensures.given
+    (λ f. c.in_err-line.ensures.failed (ap (λ x. Err x) f) largest_text))
 
 pub returns-in_default-clause-streamed : goal.returns-in_default-clause-streamed
 returns-in_default-clause-streamed g c =
@@ -40,9 +44,11 @@ returns-then-not-line-clause-streamed g c =
 pub lines-preserved : goal.lines-preserved
 lines-preserved g c = record {
   shelf = only_read-trans c.lines.invariant.shelf c.next_line.ensures.shelf;
-  on_its_way = further c.args.graph.now c.args.params c.args.vehicles.now _ _ _ _ (g.S.Shelf.left c.args.shelf.now) _ _ c.in-Some.line _ _ _ _ _ _ c.lines.invariant.on_its_way
-      (rw c.in-Some.is at c.in_ok-line.ensures.given) ((rw c.in-Some.is at c.in_ok-line.ensures.count).0) (rw c.in-Some.is at c.in_ok-line.ensures.falls) c.if-not-line.false c.in_ok-answer_line.ensures.answered c.in_ok-answer_line.ensures.moments;
+  on_its_way = further c.args.graph.now c.args.params c.args.vehicles.now _ _ _ _ (g.S.Shelf.left c.args.shelf.now) c.lines.lines c.next_line.new.lines (g.S.Shelf.left c.lines.shelf) (g.S.Shelf.left c.next_line.new.shelf) c.in-Some.line _ _ _ _ c.lines.invariant.on_its_way
+      ((rw c.in-Some.is at c.in_ok-line.ensures.count).0) (rw c.in-Some.is at c.in_ok-line.ensures.falls) ((rw c.in-Some.is at c.in_ok-line.ensures.goes) c.if-not-line.false largest_text) c.in_ok-answer_line.ensures.answered c.in_ok-answer_line.ensures.moments;
   counted = search rules;
+  asks = c.in_ok-answer_line.ensures.asks ∙ c.lines.invariant.asks;
   unstopped = search rules;
+  goes_on = (rw c.in-Some.is at c.in_ok-line.ensures.over) c.if-not-line.false;
   given = (rw c.in-Some.is at c.in_ok-line.ensures.count).1 ∙ sym ((rw c.in-Some.is at c.in_ok-line.ensures.count).0);
 }

@@ -1,4 +1,4 @@
-use Rattle.std.proofs.Common.{◌≡◌, ◌≤◌, None}
+use Rattle.std.proofs.Common.{◌≡◌, ◌≤◌, None, false}
 use Rattle.ride_base.specs.Outside.{OnlyRead}
 use Rattle.ride_base.specs.Reading.{unread}
 use Rattle.dispatch_top.proofs.Streaming.{IsOnItsWay}
@@ -12,7 +12,9 @@ invariant-lines g l =
       shelf : OnlyRead S.IsBegun S.held S.names S.IsSure S.faults l.fn.shelf l.shelf;
       on_its_way : IsOnItsWay l.graph l.fn.params l.vehicles l.numbers l.fleet (S.left l.fn.shelf) (unread l.lines (S.left l.shelf)) l.number l.lines.room (K.taken l.fn.sink) (K.taken l.sink);
       counted : K.faults l.fn.sink ≤ K.faults l.sink;
+      asks : l.steps.1 ≡ l.fn.steps.1;
       unstopped : l.lines.stopped ≡ None;
+      goes_on : l.lines.over ≡ false;
       given : l.lines.given ≡ l.number;
     }
 

@@ -1,6 +1,6 @@
 use Rattle.std.proofs.Common.{◌≡◌, ◌+◌, ◌-◌, length, position}
 use Rattle.std.specs.Prelude.{IsSome}
-use Rattle.ride_base.specs.Buffers.{with_front}
+use Rattle.ride_base.specs.Buffers.{with_front, IsWithinARead}
 use Rattle.ride_base.specs.Outside.{OnlyRead}
 use Rattle.ride_base.specs.Pieces.{is_line_end}
 use Rattle.ride_base.proofs.buffer.Buffer.front.Given as goal
@@ -11,6 +11,7 @@ invariant-loop-at g l =
     record {
       shelf : OnlyRead S.IsBegun S.held S.names S.IsSure S.faults l.fn.shelf l.shelf;
       unread : with_front l.self (S.left l.shelf) ≡ with_front l.fn.self (S.left l.fn.shelf);
+      near : IsWithinARead l.most l.fn.self (S.left l.fn.shelf) (S.left l.shelf);
       holds : IsSome (position is_line_end l.fn.self) → record { shelf : l.shelf ≡ l.fn.shelf; bytes : l.self ≡ l.fn.self };
     }
 

@@ -6,4 +6,4 @@ pub returns-in-Some-clause-tells : goal.returns-in-Some-clause-tells
 returns-in-Some-clause-tells c = rw (← c.self.view_is) (λ left. stopped_ended c.self.inside.pending c.self.inside.room _ left c.args.at c.in-Some.stop c.fault.result (rw (← c.self.view_is) at c.requires.at) c.in-Some.ensures c.fault.ensures)
 
 pub returns-clause-tells : goal.returns-clause-tells
-returns-clause-tells c = rw (← c.self.view_is) (λ left. gives_ended c.self.inside.pending c.self.inside.room c.cut_line.new.self _ left c.args.at _ (rw (← c.self.view_is) at c.requires.at) (none_stops c.stop_at.result _ c.stop_at.ensures c.in_default.not-Some) c.in_ok-bytes.ensures.ok.0 refl c.in_ok-bytes.ensures.ok.1 refl)
+returns-clause-tells c = rw (← c.self.view_is) (λ left. gives_ended c.self.inside.pending c.self.inside.room c.cut_line.new.self _ left c.args.at _ (rw (← c.self.view_is) at c.requires.at) (none_stops c.stop_at.result _ c.stop_at.ensures c.in_default.not-Some) c.in_ok-cut_line.ensures.line refl c.in_ok-cut_line.ensures.rest refl)

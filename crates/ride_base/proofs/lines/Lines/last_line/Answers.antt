@@ -6,4 +6,4 @@ pub returns-in-Some-clause-tells : goal.returns-in-Some-clause-tells
 returns-in-Some-clause-tells c = rw (← c.self.view_is) (λ left end. stopped_last c.self.inside.pending c.self.inside.room c.len-length.result _ left c.in-Some.stop c.fault.result end c.len-length.ensures c.if-length-eq0.false (rw (← c.self.view_is) at c.requires.unended) c.in-Some.ensures c.fault.ensures)
 
 pub returns-clause-tells : goal.returns-clause-tells
-returns-clause-tells c = rw (← c.self.view_is) (λ left end. gives_last c.self.inside.pending c.self.inside.room c.len-length.result c.cut_all.new.self _ left _ end c.len-length.ensures c.if-length-eq0.false (rw (← c.self.view_is) at c.requires.unended) (none_stops c.stop_at.result _ c.stop_at.ensures c.in_default.not-Some) c.in_ok-bytes.ensures.ok.0 refl c.in_ok-bytes.ensures.ok.1)
+returns-clause-tells c = rw (← c.self.view_is) (λ left end. gives_last c.self.inside.pending c.self.inside.room c.len-length.result c.cut_all.new.self _ left _ end c.len-length.ensures c.if-length-eq0.false (rw (← c.self.view_is) at c.requires.unended) (none_stops c.stop_at.result _ c.stop_at.ensures c.in_default.not-Some) c.in_ok-cut_all.ensures.line refl c.in_ok-cut_all.ensures.rest)
