@@ -4,6 +4,8 @@
 #[cfg(test)]
 mod graphs;
 #[cfg(test)]
+mod lenient;
+#[cfg(test)]
 mod tables;
 #[cfg(test)]
 mod words;

@@ -1,7 +1,9 @@
 ghost use Rattle.std.specs.Prelude.{IfOk, IsSome};
 
-use input_tables::{FleetFault, StreamFault, StreamLine, read_fleet, stream_line};
-use ride_base::{Items, Line, MemoryShelf, RequestNo, Shelf, VehicleNo};
+use input_tables::FleetFault::{self, Double, Form, Header, Large, Range};
+use input_tables::StreamLine::{self, Move, Nothing};
+use input_tables::{StreamFault, read_fleet, stream_line};
+use ride_base::{Items, Line, MemoryShelf, RequestNo, Shelf};
 use road_graph::NodeNo;
 use std::alloc::Global;
 use std::process::Abort;
@@ -9,6 +11,27 @@ use std::test::Fail;
 use stop_schedule::{Request, Vehicle};
 
 const HEADER: &[u8] = b"vehicle,start,seats,from,until\n";
+
+/// A vehicle by its number, its start, its seats, and the beginning and end of its service.
+type Row = (u32, u32, u32, u64, u64);
+
+/// A text with its vehicles or the fault.
+type TableCase = (&'static [u8], Result<&'static [Row], FleetFault>);
+
+/// A request by its number, its pickup, its dropoff, its moment and its riders.
+type Ride = (u64, u32, u32, u64, u32);
+
+/// The latest moment.
+const LATEST: u64 = 1099511627776;
+
+/// The largest number of 32 bits.
+const LARGEST: u32 = 4294967295;
+
+const ONE: Row = (1, 1, 2, 0, 1000);
+
+const TWO: Row = (2, 1, 2, 0, 1000);
+
+const THREE: Row = (3, 1, 2, 0, 1000);
 
 // A shelf with the text begun.
 fn begun(alloc: Global, text: &[u8]) -> Result<MemoryShelf, Fail>
@@ -20,418 +43,192 @@ fn begun(alloc: Global, text: &[u8]) -> Result<MemoryShelf, Fail>
     Ok(shelf)
 }
 
-// A vehicle at node 1 with 2 seats, in service from 0 until 1000.
-fn usual(no: u32) -> Vehicle {
-    vehicle(no, 1, 2, 0, 1000)
+fn are_rows(vehicles: &[Vehicle], rows: &[Row]) -> bool {
+    if vehicles.len() != rows.len() {
+        return false;
+    }
+    for k in 0..rows.len() {
+        let v = vehicles[k];
+        if (v.no.0, v.start.0, v.seats, v.from, v.until) != rows[k] {
+            return false;
+        }
+    }
+    true
 }
 
-fn vehicle(no: u32, start: u32, seats: u32, from: u64, until: u64) -> Vehicle {
-    Vehicle {
-        no: VehicleNo(no),
-        start: NodeNo(start),
-        seats,
-        from,
-        until,
+/// Whether the text that is begun gives these vehicles over four nodes, or this fault.
+fn has_rows(alloc: Global, shelf: &mut MemoryShelf, expected: &Result<&[Row], FleetFault>) -> bool
+    requires { IsSome shelf.old.begun }
+{
+    match (read_fleet(alloc, shelf, 4), expected) {
+        (Ok(vehicles), Ok(rows)) => are_rows(vehicles.as_slice(), rows),
+        (Err(found), Err(fault)) => found == *fault,
+        _ => false,
     }
 }
 
-// A text is this table, over four nodes. It comes in pieces of at most 7,000 bytes.
-fn text_gives(
+/// A text comes in pieces of at most 7,000 bytes, and gives these vehicles or this fault.
+fn table_is(
     rt: &impl Abort,
     alloc: Global,
     text: &[u8],
-    expected: &[Vehicle],
+    expected: &Result<&[Row], FleetFault>,
 ) -> Result<(), Fail> {
     let mut shelf = begun(alloc, text)?;
     shelf.pieces(7000);
-    let vehicles = read_fleet(alloc, &mut shelf, 4)?;
-    assert_eq!(rt; vehicles.as_slice(), expected);
+    let same = has_rows(alloc, &mut shelf, expected);
+    assert!(rt; same, "{}", text.escape_ascii());
     Ok(())
 }
 
-// A text is no table.
-fn text_fails(
+/// Each text behind these bytes is read as is said beside it.
+fn are_tables(
     rt: &impl Abort,
     alloc: Global,
-    text: &[u8],
-    expected: FleetFault,
+    start: &[u8],
+    cases: &[TableCase],
 ) -> Result<(), Fail> {
-    let mut shelf = begun(alloc, text)?;
-    shelf.pieces(7000);
-    let count = read_fleet(alloc, &mut shelf, 4).map(|vehicles| vehicles.len());
-    assert_eq!(rt; count, Err(expected));
+    for (rows, expected) in cases {
+        let text = joined(alloc, start, rows)?;
+        table_is(rt, alloc, text.as_slice(), expected)?;
+    }
     Ok(())
 }
 
-// Rows behind the header.
-fn table(alloc: Global, rows: &[u8]) -> Result<Vec<u8>, Fail> {
+fn joined(alloc: Global, start: &[u8], rows: &[u8]) -> Result<Items<u8>, Fail> {
     let mut text = Vec::new(alloc);
-    text.extend_from_slice(HEADER)?;
+    text.extend_from_slice(start)?;
     text.extend_from_slice(rows)?;
-    Ok(text)
+    Ok(Items::from_vec(text))
 }
 
-// Rows are these vehicles.
-fn gives(rt: &impl Abort, alloc: Global, rows: &[u8], expected: &[Vehicle]) -> Result<(), Fail> {
-    let text = table(alloc, rows)?;
-    text_gives(rt, alloc, text.as_slice(), expected)
-}
-
-// Rows are refused.
-fn fails(rt: &impl Abort, alloc: Global, rows: &[u8], expected: FleetFault) -> Result<(), Fail> {
-    let text = table(alloc, rows)?;
-    text_fails(rt, alloc, text.as_slice(), expected)
-}
-
-#[test]
-fn one_table(rt: HostRuntime) -> Result<(), Fail> {
-    gives(&rt, rt.alloc(), b"1,1,2,0,1000\n", &[usual(1)])?;
-    gives(&rt, rt.alloc(), b"", &[])
-}
+const HEADERS: &[TableCase] = &[
+    (b"", Err(Header)),
+    (b"\n\r\n\r", Err(Header)),
+    (b"id", Err(Header)),
+    (b"vehicle,start,seats,from", Err(Header)),
+    (b"vehicle,start,seats,from,until,more", Err(Header)),
+    (b"Vehicle,start,seats,from,until", Err(Header)),
+    (b"vehicle,start,seats,from,until", Ok(&[])),
+    (
+        b"\n\n\xef\xbb\xbfvehicle,start,seats,from,until",
+        Err(Header),
+    ),
+    (b"\xef\xbb\xbfvehicle,start,seats,from,until", Ok(&[])),
+    (b"\r\n\nvehicle,start,seats,from,until", Ok(&[])),
+    (b"\"vehicle\",start,\"seats\",from,\"until\"", Ok(&[])),
+    (b" vehicle\t,start ,\tseats, from,until \r\n", Ok(&[])),
+    (b"\"vehicle,start,seats,from,until\"", Err(Header)),
+    (b"   \nvehicle,start,seats,from,until", Err(Header)),
+    (b"\"vehicle\"\",start,seats,from,until", Err(Header)),
+];
 
 #[test]
 fn headers(rt: HostRuntime) -> Result<(), Fail> {
-    text_fails(&rt, rt.alloc(), b"", FleetFault::Header)?;
-    text_fails(&rt, rt.alloc(), b"\n\r\n\r", FleetFault::Header)?;
-    text_fails(&rt, rt.alloc(), b"id", FleetFault::Header)?;
-    text_fails(
-        &rt,
-        rt.alloc(),
-        b"vehicle,start,seats,from",
-        FleetFault::Header,
-    )?;
-    text_fails(
-        &rt,
-        rt.alloc(),
-        b"vehicle,start,seats,from,until,more",
-        FleetFault::Header,
-    )?;
-    text_fails(
-        &rt,
-        rt.alloc(),
-        b"Vehicle,start,seats,from,until",
-        FleetFault::Header,
-    )?;
-    text_gives(&rt, rt.alloc(), b"vehicle,start,seats,from,until", &[])?;
-    text_fails(
-        &rt,
-        rt.alloc(),
-        b"\n\n\xef\xbb\xbfvehicle,start,seats,from,until",
-        FleetFault::Header,
-    )?;
-    text_gives(
-        &rt,
-        rt.alloc(),
-        b"\xef\xbb\xbfvehicle,start,seats,from,until",
-        &[],
-    )
+    are_tables(&rt, rt.alloc(), b"", HEADERS)
 }
 
-#[test]
-fn spellings_of_headers(rt: HostRuntime) -> Result<(), Fail> {
-    text_gives(
-        &rt,
-        rt.alloc(),
-        b"\r\n\nvehicle,start,seats,from,until",
-        &[],
-    )?;
-    text_gives(
-        &rt,
-        rt.alloc(),
-        b"\"vehicle\",start,\"seats\",from,\"until\"",
-        &[],
-    )?;
-    text_gives(
-        &rt,
-        rt.alloc(),
-        b" vehicle\t,start ,\tseats, from,until \r\n",
-        &[],
-    )?;
-    text_fails(
-        &rt,
-        rt.alloc(),
-        b"\"vehicle,start,seats,from,until\"",
-        FleetFault::Header,
-    )?;
-    text_fails(
-        &rt,
-        rt.alloc(),
-        b"   \nvehicle,start,seats,from,until",
-        FleetFault::Header,
-    )?;
-    text_fails(
-        &rt,
-        rt.alloc(),
-        b"\"vehicle\"\",start,seats,from,until",
-        FleetFault::Header,
-    )
-}
-
-#[test]
-fn quotes(rt: HostRuntime) -> Result<(), Fail> {
-    gives(&rt, rt.alloc(), b"\"1\",1,\" 2\t\",0,1000\n", &[usual(1)])?;
-    fails(
-        &rt,
-        rt.alloc(),
-        b"\"\"\"1\"\"\",1,2,0,1000\n",
-        FleetFault::Form { row: 1 },
-    )?;
-    fails(
-        &rt,
-        rt.alloc(),
-        b"\"1\n\",1,2,0,1000\n",
-        FleetFault::Form { row: 1 },
-    )?;
-    gives(&rt, rt.alloc(), b"\"1\"2,1,2,0,1000\n", &[usual(12)])?;
-    gives(&rt, rt.alloc(), b"1,1,2,0,\"1000", &[usual(1)])?;
-    fails(
-        &rt,
-        rt.alloc(),
-        b"1,1,2,0,\"1000\n",
-        FleetFault::Form { row: 1 },
-    )?;
-    fails(
-        &rt,
-        rt.alloc(),
-        b"\"1,1,2,0,1000\n",
-        FleetFault::Form { row: 1 },
-    )?;
-    fails(
-        &rt,
-        rt.alloc(),
-        b" \"1\",1,2,0,1000\n",
-        FleetFault::Form { row: 1 },
-    )?;
-    fails(
-        &rt,
-        rt.alloc(),
-        b"\"1,1\",1,2,0,1000\n",
-        FleetFault::Form { row: 1 },
-    )
-}
-
-#[test]
-fn line_ends(rt: HostRuntime) -> Result<(), Fail> {
-    gives(
-        &rt,
-        rt.alloc(),
-        b"\n\n1,1,2,0,1000\n\n\n2,1,2,0,1000",
-        &[usual(1), usual(2)],
-    )?;
-    gives(
-        &rt,
-        rt.alloc(),
-        b"1,1,2,0,1000\r\n2,1,2,0,1000\r\n",
-        &[usual(1), usual(2)],
-    )?;
-    gives(
-        &rt,
-        rt.alloc(),
-        b"1,1,2,0,1000\r2,1,2,0,1000\r",
-        &[usual(1), usual(2)],
-    )?;
-    fails(
-        &rt,
-        rt.alloc(),
+const ROWS: &[TableCase] = &[
+    (b"1,1,2,0,1000\n", Ok(&[ONE])),
+    (b"", Ok(&[])),
+    (b"\n\n1,1,2,0,1000\n\n\n2,1,2,0,1000", Ok(&[ONE, TWO])),
+    (b"1,1,2,0,1000\r\n2,1,2,0,1000\r\n", Ok(&[ONE, TWO])),
+    (b"1,1,2,0,1000\r2,1,2,0,1000\r", Ok(&[ONE, TWO])),
+    (
         b"\n\n1,1,2,0,1000\n\n\n1,1,2,0,1000",
-        FleetFault::Double { row: 2 },
-    )?;
-    fails(
-        &rt,
-        rt.alloc(),
-        b"1,1,2,0,1000\n  \t\n",
-        FleetFault::Form { row: 2 },
-    )
+        Err(Double { row: 2 }),
+    ),
+    (b"1,1,2,0,1000\n  \t\n", Err(Form { row: 2 })),
+    (b"1,1,2,0,1000\n1,1,2,0,1000\n", Err(Double { row: 2 })),
+    (b"1,1,2,0,1000\n1,5,2,0,1000\n", Err(Range { row: 2 })),
+    (
+        b"1,1,2,0,1000\n2,1,2,0,1000\n01,1,2,0,1000\n",
+        Err(Double { row: 3 }),
+    ),
+    (
+        b"3,1,2,0,1000\n2,1,2,0,1000\n1,1,2,0,1000\n",
+        Ok(&[ONE, TWO, THREE]),
+    ),
+    (
+        b"10,1,2,0,1000\n9,1,2,0,1000\n11,1,2,0,1000\n",
+        Ok(&[(9, 1, 2, 0, 1000), (10, 1, 2, 0, 1000), (11, 1, 2, 0, 1000)]),
+    ),
+];
+
+#[test]
+fn rows(rt: HostRuntime) -> Result<(), Fail> {
+    are_tables(&rt, rt.alloc(), HEADER, ROWS)
 }
+
+const FIELDS: &[TableCase] = &[
+    (b"\"1\",1,\" 2\t\",0,1000\n", Ok(&[ONE])),
+    (b"\"\"\"1\"\"\",1,2,0,1000\n", Err(Form { row: 1 })),
+    (b"\"1\n\",1,2,0,1000\n", Err(Form { row: 1 })),
+    (b"\"1\"2,1,2,0,1000\n", Ok(&[(12, 1, 2, 0, 1000)])),
+    (b"1,1,2,0,\"1000", Ok(&[ONE])),
+    (b"1,1,2,0,\"1000\n", Err(Form { row: 1 })),
+    (b"\"1,1,2,0,1000\n", Err(Form { row: 1 })),
+    (b" \"1\",1,2,0,1000\n", Err(Form { row: 1 })),
+    (b"\"1,1\",1,2,0,1000\n", Err(Form { row: 1 })),
+    (b"1,1,2,0\n", Err(Form { row: 1 })),
+    (b"1,1,2,0,1000,\n", Err(Form { row: 1 })),
+    (b"1,1,2,0,1000\n0,1,2,0,1000,1\n", Err(Form { row: 2 })),
+    (b"1,,2,0,1000\n", Err(Form { row: 1 })),
+    (b"1,1,+2,0,1000\n", Err(Form { row: 1 })),
+    (b"1,1,2 2,0,1000\n", Err(Form { row: 1 })),
+    (b"0,1,2,0,x\n", Err(Form { row: 1 })),
+    (b"1,1,2,0,1000\xff\n", Err(Form { row: 1 })),
+    (
+        b" 0001\t,  1,2 ,00000000000000000000000000,1000\n",
+        Ok(&[ONE]),
+    ),
+];
 
 #[test]
 fn fields(rt: HostRuntime) -> Result<(), Fail> {
-    fails(&rt, rt.alloc(), b"1,1,2,0\n", FleetFault::Form { row: 1 })?;
-    fails(
-        &rt,
-        rt.alloc(),
-        b"1,1,2,0,1000,\n",
-        FleetFault::Form { row: 1 },
-    )?;
-    fails(
-        &rt,
-        rt.alloc(),
-        b"1,1,2,0,1000\n0,1,2,0,1000,1\n",
-        FleetFault::Form { row: 2 },
-    )?;
-    fails(
-        &rt,
-        rt.alloc(),
-        b"1,,2,0,1000\n",
-        FleetFault::Form { row: 1 },
-    )?;
-    fails(
-        &rt,
-        rt.alloc(),
-        b"1,1,+2,0,1000\n",
-        FleetFault::Form { row: 1 },
-    )?;
-    fails(
-        &rt,
-        rt.alloc(),
-        b"1,1,2 2,0,1000\n",
-        FleetFault::Form { row: 1 },
-    )?;
-    fails(&rt, rt.alloc(), b"0,1,2,0,x\n", FleetFault::Form { row: 1 })?;
-    fails(
-        &rt,
-        rt.alloc(),
-        b"1,1,2,0,1000\xff\n",
-        FleetFault::Form { row: 1 },
-    )?;
-    gives(
-        &rt,
-        rt.alloc(),
-        b" 0001\t,  1,2 ,00000000000000000000000000,1000\n",
-        &[usual(1)],
-    )
+    are_tables(&rt, rt.alloc(), HEADER, FIELDS)
 }
 
-#[test]
-fn numbers_and_starts(rt: HostRuntime) -> Result<(), Fail> {
-    fails(
-        &rt,
-        rt.alloc(),
-        b"0,1,2,0,1000\n",
-        FleetFault::Range { row: 1 },
-    )?;
-    gives(
-        &rt,
-        rt.alloc(),
-        b"4294967295,1,2,0,1000\n",
-        &[usual(4294967295)],
-    )?;
-    fails(
-        &rt,
-        rt.alloc(),
-        b"4294967296,1,2,0,1000\n",
-        FleetFault::Range { row: 1 },
-    )?;
-    fails(
-        &rt,
-        rt.alloc(),
-        b"18446744073709551617,1,2,0,1000\n",
-        FleetFault::Range { row: 1 },
-    )?;
-    fails(
-        &rt,
-        rt.alloc(),
-        b"1,0,2,0,1000\n",
-        FleetFault::Range { row: 1 },
-    )?;
-    gives(
-        &rt,
-        rt.alloc(),
-        b"1,4,2,0,1000\n",
-        &[vehicle(1, 4, 2, 0, 1000)],
-    )?;
-    fails(
-        &rt,
-        rt.alloc(),
-        b"1,5,2,0,1000\n",
-        FleetFault::Range { row: 1 },
-    )?;
-    fails(
-        &rt,
-        rt.alloc(),
-        b"1,4294967297,2,0,1000\n",
-        FleetFault::Range { row: 1 },
-    )
-}
-
-#[test]
-fn seats_and_service(rt: HostRuntime) -> Result<(), Fail> {
-    fails(
-        &rt,
-        rt.alloc(),
-        b"1,1,0,0,1000\n",
-        FleetFault::Range { row: 1 },
-    )?;
-    gives(
-        &rt,
-        rt.alloc(),
-        b"1,1,1,0,1000\n",
-        &[vehicle(1, 1, 1, 0, 1000)],
-    )?;
-    gives(
-        &rt,
-        rt.alloc(),
-        b"1,1,16,0,1000\n",
-        &[vehicle(1, 1, 16, 0, 1000)],
-    )?;
-    fails(
-        &rt,
-        rt.alloc(),
-        b"1,1,17,0,1000\n",
-        FleetFault::Range { row: 1 },
-    )?;
-    gives(&rt, rt.alloc(), b"1,1,2,7,7\n", &[vehicle(1, 1, 2, 7, 7)])?;
-    fails(
-        &rt,
-        rt.alloc(),
-        b"1,1,2,8,7\n",
-        FleetFault::Range { row: 1 },
-    )?;
-    gives(
-        &rt,
-        rt.alloc(),
+const RANGES: &[TableCase] = &[
+    (b"0,1,2,0,1000\n", Err(Range { row: 1 })),
+    (b"4294967295,1,2,0,1000\n", Ok(&[(LARGEST, 1, 2, 0, 1000)])),
+    (b"4294967296,1,2,0,1000\n", Err(Range { row: 1 })),
+    (b"18446744073709551617,1,2,0,1000\n", Err(Range { row: 1 })),
+    (b"1,0,2,0,1000\n", Err(Range { row: 1 })),
+    (b"1,4,2,0,1000\n", Ok(&[(1, 4, 2, 0, 1000)])),
+    (b"1,5,2,0,1000\n", Err(Range { row: 1 })),
+    (b"1,4294967297,2,0,1000\n", Err(Range { row: 1 })),
+    (b"1,1,0,0,1000\n", Err(Range { row: 1 })),
+    (b"1,1,1,0,1000\n", Ok(&[(1, 1, 1, 0, 1000)])),
+    (b"1,1,16,0,1000\n", Ok(&[(1, 1, 16, 0, 1000)])),
+    (b"1,1,17,0,1000\n", Err(Range { row: 1 })),
+    (b"1,1,2,7,7\n", Ok(&[(1, 1, 2, 7, 7)])),
+    (b"1,1,2,8,7\n", Err(Range { row: 1 })),
+    (
         b"1,1,2,1099511627776,1099511627776\n",
-        &[vehicle(1, 1, 2, 1099511627776, 1099511627776)],
-    )?;
-    fails(
-        &rt,
-        rt.alloc(),
-        b"1,1,2,0,1099511627777\n",
-        FleetFault::Range { row: 1 },
-    )?;
-    fails(
-        &rt,
-        rt.alloc(),
+        Ok(&[(1, 1, 2, LATEST, LATEST)]),
+    ),
+    (b"1,1,2,0,1099511627777\n", Err(Range { row: 1 })),
+    (
         b"1,1,2,99999999999999999999,99999999999999999999\n",
-        FleetFault::Range { row: 1 },
-    )
-}
+        Err(Range { row: 1 }),
+    ),
+];
 
 #[test]
-fn doubles_and_order(rt: HostRuntime) -> Result<(), Fail> {
-    fails(
-        &rt,
-        rt.alloc(),
-        b"1,1,2,0,1000\n1,1,2,0,1000\n",
-        FleetFault::Double { row: 2 },
-    )?;
-    fails(
-        &rt,
-        rt.alloc(),
-        b"1,1,2,0,1000\n1,5,2,0,1000\n",
-        FleetFault::Range { row: 2 },
-    )?;
-    fails(
-        &rt,
-        rt.alloc(),
-        b"1,1,2,0,1000\n2,1,2,0,1000\n01,1,2,0,1000\n",
-        FleetFault::Double { row: 3 },
-    )?;
-    gives(
-        &rt,
-        rt.alloc(),
-        b"3,1,2,0,1000\n2,1,2,0,1000\n1,1,2,0,1000\n",
-        &[usual(1), usual(2), usual(3)],
-    )?;
-    gives(
-        &rt,
-        rt.alloc(),
-        b"10,1,2,0,1000\n9,1,2,0,1000\n11,1,2,0,1000\n",
-        &[usual(9), usual(10), usual(11)],
-    )
+fn ranges(rt: HostRuntime) -> Result<(), Fail> {
+    are_tables(&rt, rt.alloc(), HEADER, RANGES)
 }
 
-// So many vehicles are read of as many rows, or the fault.
+/// How many vehicles the text that is begun gives.
+fn vehicle_count(alloc: Global, shelf: &mut MemoryShelf) -> Result<usize, FleetFault>
+    requires { IsSome shelf.old.begun }
+{
+    let vehicles = read_fleet(alloc, shelf, 4)?;
+    Ok(vehicles.len())
+}
+
+/// So many vehicles are read of as many rows, or the fault.
 fn check_many(
     rt: &impl Abort,
     alloc: Global,
@@ -445,7 +242,7 @@ fn check_many(
         text.extend_from_slice(format!(in alloc; "{no},1,2,0,1000\n")?.as_bytes())?;
     }
     let mut shelf = begun(alloc, text.as_slice())?;
-    let found = read_fleet(alloc, &mut shelf, 4).map(|vehicles| vehicles.len());
+    let found = vehicle_count(alloc, &mut shelf);
     assert_eq!(rt; found, expected);
     Ok(())
 }
@@ -453,21 +250,11 @@ fn check_many(
 #[test]
 fn most_vehicles(rt: HostRuntime) -> Result<(), Fail> {
     check_many(&rt, rt.alloc(), 65536, Ok(65536))?;
-    check_many(
-        &rt,
-        rt.alloc(),
-        65537,
-        Err(FleetFault::Range { row: 65537 }),
-    )?;
-    check_many(
-        &rt,
-        rt.alloc(),
-        70000,
-        Err(FleetFault::Range { row: 65537 }),
-    )
+    check_many(&rt, rt.alloc(), 65537, Err(Range { row: 65537 }))?;
+    check_many(&rt, rt.alloc(), 70000, Err(Range { row: 65537 }))
 }
 
-// A text of so many bytes, which begins so.
+/// A text of so many bytes, which begins so.
 fn check_size(
     rt: &impl Abort,
     alloc: Global,
@@ -478,34 +265,37 @@ fn check_size(
     let mut text = Vec::new(alloc);
     text.extend_from_slice(start)?;
     text.resize(size, b'1')?;
-    text_fails(rt, alloc, text.as_slice(), expected)
+    let mut shelf = begun(alloc, text.as_slice())?;
+    shelf.pieces(7000);
+    let found = vehicle_count(alloc, &mut shelf);
+    assert_eq!(rt; found, Err(expected), "{size} bytes");
+    Ok(())
 }
 
 #[test]
 fn large_texts(rt: HostRuntime) -> Result<(), Fail> {
-    check_size(
-        &rt,
-        rt.alloc(),
-        HEADER,
-        16_777_216,
-        FleetFault::Form { row: 1 },
-    )?;
-    check_size(&rt, rt.alloc(), HEADER, 16_777_217, FleetFault::Large)?;
-    check_size(&rt, rt.alloc(), b"id", 16_777_217, FleetFault::Large)
+    check_size(&rt, rt.alloc(), HEADER, 16_777_216, Form { row: 1 })?;
+    check_size(&rt, rt.alloc(), HEADER, 16_777_217, Large)?;
+    check_size(&rt, rt.alloc(), b"id", 16_777_217, Large)
+}
+
+/// The read of that number fails, and this is told.
+fn check_failing(rt: &impl Abort, alloc: Global, text: &[u8], read: u64) -> Result<(), Fail> {
+    let mut shelf = begun(alloc, text)?;
+    shelf.pieces(20);
+    shelf.fail(alloc, "table", read)?;
+    let found = vehicle_count(alloc, &mut shelf);
+    assert_eq!(rt; found, Err(FleetFault::Fault));
+    Ok(())
 }
 
 #[test]
 fn failing_shelf(rt: HostRuntime) -> Result<(), Fail> {
-    let mut shelf = begun(rt.alloc(), HEADER)?;
-    shelf.fail(rt.alloc(), "table", 1)?;
-    assert_eq!(rt;
-        read_fleet(rt.alloc(), &mut shelf, 4).map(|vehicles| vehicles.len()),
-        Err(FleetFault::Fault)
-    );
-    Ok(())
+    check_failing(&rt, rt.alloc(), HEADER, 1)?;
+    let text = joined(rt.alloc(), HEADER, b"1,1,2,0,1000\n")?;
+    check_failing(&rt, rt.alloc(), text.as_slice(), 3)
 }
 
-// What a line says.
 fn says(
     rt: &impl Abort,
     alloc: Global,
@@ -517,134 +307,108 @@ fn says(
         bytes: Items::from_slice(alloc, bytes)?,
         ended: true,
     };
-    assert_eq!(rt; stream_line(&line), expected);
+    assert_eq!(rt; stream_line(&line), expected, "{}", bytes.escape_ascii());
     Ok(())
 }
 
-fn ride(
-    no: u64,
-    pickup: u32,
-    dropoff: u32,
-    moment: u64,
-    riders: u32,
-) -> Result<StreamLine, StreamFault> {
-    Ok(StreamLine::Ride(Request {
+/// None of the lines says anything but this fault.
+fn are_no_lines(
+    rt: &impl Abort,
+    alloc: Global,
+    lines: &[&[u8]],
+    fault: StreamFault,
+) -> Result<(), Fail> {
+    for bytes in lines {
+        says(rt, alloc, bytes, Err(fault))?;
+    }
+    Ok(())
+}
+
+const LINES: &[(&[u8], StreamLine)] = &[
+    (b"t 5", Move(5)),
+    (b" \tt\t 005 ", Move(5)),
+    (b"", Nothing),
+    (b" \t ", Nothing),
+    (b"c", Nothing),
+    (b" \tcomment \xff r", Nothing),
+    (b"t 1099511627776", Move(LATEST)),
+];
+
+#[test]
+fn lines(rt: HostRuntime) -> Result<(), Fail> {
+    for (bytes, said) in LINES {
+        says(&rt, rt.alloc(), bytes, Ok(*said))?;
+    }
+    Ok(())
+}
+
+const RIDES: &[(&[u8], Ride)] = &[
+    (b"r 7 2 4 0 1", (7, 2, 4, 0, 1)),
+    (
+        b"\t r  007\t2 4 00000000000000000000000000 1 ",
+        (7, 2, 4, 0, 1),
+    ),
+    (b"r 0 0 0 0 0", (0, 0, 0, 0, 0)),
+    (
+        b"r 1099511627776 4294967295 4294967295 1099511627776 4294967295",
+        (LATEST, LARGEST, LARGEST, LATEST, LARGEST),
+    ),
+];
+
+fn ride((no, pickup, dropoff, moment, riders): Ride) -> StreamLine {
+    StreamLine::Ride(Request {
         no: RequestNo(no),
         pickup: NodeNo(pickup),
         dropoff: NodeNo(dropoff),
         moment,
         riders,
-    }))
+    })
 }
 
 #[test]
-fn forms(rt: HostRuntime) -> Result<(), Fail> {
-    says(&rt, rt.alloc(), b"r 7 2 4 0 1", ride(7, 2, 4, 0, 1))?;
-    says(
-        &rt,
-        rt.alloc(),
-        b"\t r  007\t2 4 00000000000000000000000000 1 ",
-        ride(7, 2, 4, 0, 1),
-    )?;
-    says(&rt, rt.alloc(), b"t 5", Ok(StreamLine::Move(5)))?;
-    says(&rt, rt.alloc(), b" \tt\t 005 ", Ok(StreamLine::Move(5)))?;
-    says(&rt, rt.alloc(), b"", Ok(StreamLine::Nothing))?;
-    says(&rt, rt.alloc(), b" \t ", Ok(StreamLine::Nothing))?;
-    says(&rt, rt.alloc(), b"c", Ok(StreamLine::Nothing))?;
-    says(
-        &rt,
-        rt.alloc(),
-        b" \tcomment \xff r",
-        Ok(StreamLine::Nothing),
-    )
+fn rides(rt: HostRuntime) -> Result<(), Fail> {
+    for (bytes, expected) in RIDES {
+        says(&rt, rt.alloc(), bytes, Ok(ride(*expected)))?;
+    }
+    Ok(())
 }
+
+const NO_FORMS: &[&[u8]] = &[
+    b"r 7 2 4 0",
+    b"r 7 2 4 0 1 1",
+    b"r",
+    b"t",
+    b"t 5 5",
+    b"q",
+    b"rr 7 2 4 0 1",
+    b"R 7 2 4 0 1",
+    b"t5",
+    b"\xffc",
+    b"t -5",
+    b"t +5",
+    b"t 5\r",
+    b"t 5\xff",
+    b"r 7 2 4 0 -1",
+    b"r 1099511627777 2 4 0 x",
+    b"r 7,2,4,0,1",
+];
 
 #[test]
 fn other_forms(rt: HostRuntime) -> Result<(), Fail> {
-    says(&rt, rt.alloc(), b"r 7 2 4 0", Err(StreamFault::Form))?;
-    says(&rt, rt.alloc(), b"r 7 2 4 0 1 1", Err(StreamFault::Form))?;
-    says(&rt, rt.alloc(), b"r", Err(StreamFault::Form))?;
-    says(&rt, rt.alloc(), b"t", Err(StreamFault::Form))?;
-    says(&rt, rt.alloc(), b"t 5 5", Err(StreamFault::Form))?;
-    says(&rt, rt.alloc(), b"q", Err(StreamFault::Form))?;
-    says(&rt, rt.alloc(), b"rr 7 2 4 0 1", Err(StreamFault::Form))?;
-    says(&rt, rt.alloc(), b"R 7 2 4 0 1", Err(StreamFault::Form))?;
-    says(&rt, rt.alloc(), b"t5", Err(StreamFault::Form))?;
-    says(&rt, rt.alloc(), b"\xffc", Err(StreamFault::Form))
+    are_no_lines(&rt, rt.alloc(), NO_FORMS, StreamFault::Form)
 }
 
-#[test]
-fn no_numbers(rt: HostRuntime) -> Result<(), Fail> {
-    says(&rt, rt.alloc(), b"t -5", Err(StreamFault::Form))?;
-    says(&rt, rt.alloc(), b"t +5", Err(StreamFault::Form))?;
-    says(&rt, rt.alloc(), b"t 5\r", Err(StreamFault::Form))?;
-    says(&rt, rt.alloc(), b"t 5\xff", Err(StreamFault::Form))?;
-    says(&rt, rt.alloc(), b"r 7 2 4 0 -1", Err(StreamFault::Form))?;
-    says(
-        &rt,
-        rt.alloc(),
-        b"r 1099511627777 2 4 0 x",
-        Err(StreamFault::Form),
-    )?;
-    says(&rt, rt.alloc(), b"r 7,2,4,0,1", Err(StreamFault::Form))
-}
+const PAST_RANGES: &[&[u8]] = &[
+    b"t 1099511627777",
+    b"t 18446744073709551616",
+    b"r 1099511627777 2 4 0 1",
+    b"r 7 4294967296 4 0 1",
+    b"r 7 2 4294967296 0 1",
+    b"r 7 2 4 1099511627777 1",
+    b"r 7 2 4 0 4294967296",
+];
 
 #[test]
-fn ranges(rt: HostRuntime) -> Result<(), Fail> {
-    says(
-        &rt,
-        rt.alloc(),
-        b"t 1099511627776",
-        Ok(StreamLine::Move(1099511627776)),
-    )?;
-    says(&rt, rt.alloc(), b"t 1099511627777", Err(StreamFault::Range))?;
-    says(
-        &rt,
-        rt.alloc(),
-        b"t 18446744073709551616",
-        Err(StreamFault::Range),
-    )?;
-    says(&rt, rt.alloc(), b"r 0 0 0 0 0", ride(0, 0, 0, 0, 0))?;
-    says(
-        &rt,
-        rt.alloc(),
-        b"r 1099511627776 4294967295 4294967295 1099511627776 4294967295",
-        ride(
-            1099511627776,
-            4294967295,
-            4294967295,
-            1099511627776,
-            4294967295,
-        ),
-    )?;
-    says(
-        &rt,
-        rt.alloc(),
-        b"r 1099511627777 2 4 0 1",
-        Err(StreamFault::Range),
-    )?;
-    says(
-        &rt,
-        rt.alloc(),
-        b"r 7 4294967296 4 0 1",
-        Err(StreamFault::Range),
-    )?;
-    says(
-        &rt,
-        rt.alloc(),
-        b"r 7 2 4294967296 0 1",
-        Err(StreamFault::Range),
-    )?;
-    says(
-        &rt,
-        rt.alloc(),
-        b"r 7 2 4 1099511627777 1",
-        Err(StreamFault::Range),
-    )?;
-    says(
-        &rt,
-        rt.alloc(),
-        b"r 7 2 4 0 4294967296",
-        Err(StreamFault::Range),
-    )
+fn numbers_past_their_ranges(rt: HostRuntime) -> Result<(), Fail> {
+    are_no_lines(&rt, rt.alloc(), PAST_RANGES, StreamFault::Range)
 }
