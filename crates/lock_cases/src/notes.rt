@@ -78,7 +78,9 @@ pub fn note<R: Wait + Sync>(
     number: u64,
 ) -> Result<(), AllocError>
     requires { desk.old.lock ≡ Some lock.now }
-    ensures desk { (desk.new.number ≡ desk.old.number) × (desk.new.family ≡ desk.old.family) × (desk.new.lock ≡ desk.old.lock) }
+    ensures number { desk.new.number ≡ desk.old.number }
+    ensures family { desk.new.family ≡ desk.old.family }
+    ensures lock { desk.new.lock ≡ desk.old.lock }
     ensures noted { OnOk result (own desk.new ≡ own desk.old ++ number ∷ []) }
     ensures refused { OnErr result (own desk.new ≡ own desk.old) }
     ensures seen { Begins desk.old.seen desk.new.seen }
@@ -116,8 +118,10 @@ pub fn note_beside<R: Threads + Wait + Sync>(
     two: NoteDesk,
     count: u64,
 ) -> Option<(NoteDesk, NoteDesk)>
-    requires { (one.lock ≡ Some lock.now) × (two.lock ≡ Some lock.now) }
-    ensures { IfSome result (λ both. (both.0.lock ≡ Some lock.now) × (both.1.lock ≡ Some lock.now)) }
+    requires one { one.lock ≡ Some lock.now }
+    requires two { two.lock ≡ Some lock.now }
+    ensures one { IfSome result (λ both. both.0.lock ≡ Some lock.now) }
+    ensures two { IfSome result (λ both. both.1.lock ≡ Some lock.now) }
 {
     let (one, two) = join(
         rt,
@@ -141,8 +145,14 @@ pub fn note_all<R: Threads + Wait + Sync>(
     back: (NoteDesk, NoteDesk),
     count: u64,
 ) -> Option<((NoteDesk, NoteDesk), (NoteDesk, NoteDesk))>
-    requires { (front.0.lock ≡ Some lock.now) × (front.1.lock ≡ Some lock.now) × (back.0.lock ≡ Some lock.now) × (back.1.lock ≡ Some lock.now) }
-    ensures { IfSome result (λ all. (all.0.0.lock ≡ Some lock.now) × (all.0.1.lock ≡ Some lock.now) × (all.1.0.lock ≡ Some lock.now) × (all.1.1.lock ≡ Some lock.now)) }
+    requires one { front.0.lock ≡ Some lock.now }
+    requires two { front.1.lock ≡ Some lock.now }
+    requires three { back.0.lock ≡ Some lock.now }
+    requires four { back.1.lock ≡ Some lock.now }
+    ensures one { IfSome result (λ all. all.0.0.lock ≡ Some lock.now) }
+    ensures two { IfSome result (λ all. all.0.1.lock ≡ Some lock.now) }
+    ensures three { IfSome result (λ all. all.1.0.lock ≡ Some lock.now) }
+    ensures four { IfSome result (λ all. all.1.1.lock ≡ Some lock.now) }
 {
     let (one, two) = front;
     let (three, four) = back;
@@ -150,11 +160,13 @@ pub fn note_all<R: Threads + Wait + Sync>(
         rt,
         || -> Option<(NoteDesk, NoteDesk)>
             requires { IsSync R.row × (one.lock ≡ Some lock.now) × (two.lock ≡ Some lock.now) }
-            ensures { IfSome result (λ both. (both.0.lock ≡ Some lock.entry.now) × (both.1.lock ≡ Some lock.entry.now)) }
+            ensures { IfSome result (λ both. (both.0.lock ≡ Some lock.entry.now)
+                × (both.1.lock ≡ Some lock.entry.now)) }
         { note_beside(rt, lock, one, two, count) },
         || -> Option<(NoteDesk, NoteDesk)>
             requires { IsSync R.row × (three.lock ≡ Some lock.now) × (four.lock ≡ Some lock.now) }
-            ensures { IfSome result (λ both. (both.0.lock ≡ Some lock.entry.now) × (both.1.lock ≡ Some lock.entry.now)) }
+            ensures { IfSome result (λ both. (both.0.lock ≡ Some lock.entry.now)
+                × (both.1.lock ≡ Some lock.entry.now)) }
         { note_beside(rt, lock, three, four, count) },
     );
     Some((front?, back?))
@@ -185,7 +197,10 @@ pub fn two_of(lock: &NoteLock, mut row: Vec<NoteDesk>) -> (NoteDesk, NoteDesk)
 /// The four desks of a new lock.
 pub fn four_of(lock: &NoteLock, mut row: Vec<NoteDesk>) -> (NoteDesk, NoteDesk, NoteDesk, NoteDesk)
     requires { row.items ≡ fresh_desks lock.now 4 }
-    ensures { (result.0.lock ≡ Some lock.now) × (result.1.lock ≡ Some lock.now) × (result.2.lock ≡ Some lock.now) × (result.3.lock ≡ Some lock.now) }
+    ensures zero { result.0.lock ≡ Some lock.now }
+    ensures one { result.1.lock ≡ Some lock.now }
+    ensures two { result.2.lock ≡ Some lock.now }
+    ensures three { result.3.lock ≡ Some lock.now }
 {
     let one = row.remove(0);
     let two = row.remove(0);

@@ -1,11 +1,12 @@
-pub mod Taking
-pub mod Spelling
-pub mod Prefixes
-pub mod Searching
-pub mod Fielding
-pub mod Filling
-pub mod Capping
-pub mod Cutting
-pub mod Storing
-pub mod Shelves
-pub mod Reaching
+pub mod ShelfLaws
+pub mod LineLaws
+mod CappedNumber
+mod FieldsOf
+mod NumberOf
+mod Positions
+mod Prefixes
+mod ReadPiece
+mod Stored
+mod Takes
+mod Tells
+mod WithinARead

@@ -3,15 +3,15 @@ use Rattle.std.specs.Prelude.{is_some, IfOk, IfSome}
 use Rattle.std.specs.List.{All, slice_split}
 use Rattle.std.specs.Str.Lines.{strip_carriage_return}
 use Rattle.std.proofs.lemmas.List.Splits.{slice_split_at, slice_split_none, length-slice_split}
-use Rattle.ride_base.specs.Buffers.{stop_of, with_front}
+use Rattle.ride_base.specs.Buffers.{limit_at, with_read}
 use Rattle.ride_base.specs.Pieces.{Piece, Whole, pieces, after_line, is_line_end, is_ended, ended_lines, ended_in_parts, longest_line}
 use Rattle.ride_base.specs.Prefixes.{IsReadWithLines, AreFirstLines, AreBefore, AreUnended, all_ended, behind_line_ends, last_part}
-use Rattle.ride_base.specs.Reader.{Stop, Long, Large}
+use Rattle.ride_base.specs.Reader.{Limit, Long, Large}
 use Rattle.ride_base.specs.Reading.{Tells, Spends, line_read}
 use Rattle.ride_base.specs.declared.lines.Line.{Line}
 use Rattle.ride_base.specs.declared.lines.LineFault.{LineFault}
-use Rattle.ride_base.proofs.Cutting.{after_stop, pieces_at, cut_at, after_line_at}
-use Rattle.ride_base.proofs.Searching.{unended_before, unended}
+use Rattle.ride_base.proofs.Tells.{pieces_at_limit, pieces_at, cut_at, after_line_at}
+use Rattle.ride_base.proofs.Positions.{unended_before, unended}
 
 -- Prefixes of a text: lines that were read whole, and what is left behind them.
 
@@ -49,7 +49,7 @@ length_more [] x = refl
 length_more (y ∷ xs) x = let e = length_more xs x in omega arith
 
 -- a line that was given is the first piece
-whole_is : (stop : Option Stop) (b l : List ℕ) (r q : List Piece) → Whole b ∷ r ≡ after_stop stop l q → b ≡ l
+whole_is : (limit : Option Limit) (b l : List ℕ) (r q : List Piece) → Whole b ∷ r ≡ pieces_at_limit limit l q → b ≡ l
 whole_is None b l r q e = cc
 whole_is (Some Long) b l r q e = cc
 whole_is (Some Large) b l r q e = cc
@@ -69,12 +69,12 @@ pub is_cut : (room room' : ℕ) (rest bytes : List ℕ) → is_ended rest ≡ tr
 is_cut room room' rest bytes e p =
     let f = some_ended (position is_line_end rest) e in
     let after : after_line rest ≡ drop (f.0 + 1) rest = ap after_line (sym (append-nil rest)) ∙ after_line_at rest [] f.0 f.1 ∙ append-nil (drop (f.0 + 1) rest) in
-    let cut : pieces room rest ≡ after_stop (stop_of f.0 (f.0 + 1) room) (strip_carriage_return (take f.0 rest)) (pieces (room - (f.0 + 1)) (drop (f.0 + 1) rest ++ [])) = ap (pieces room) (sym (append-nil rest)) ∙ pieces_at room rest [] f.0 f.1 in
+    let cut : pieces room rest ≡ pieces_at_limit (limit_at f.0 (f.0 + 1) room) (strip_carriage_return (take f.0 rest)) (pieces (room - (f.0 + 1)) (drop (f.0 + 1) rest ++ [])) = ap (pieces room) (sym (append-nil rest)) ∙ pieces_at room rest [] f.0 f.1 in
     record {
       part = take f.0 rest;
       unended_part = unended_before rest f.0 f.1;
       is_rest = cut_at rest f.0 f.1 ∙ ap (λ (l : List ℕ). take f.0 rest ++ 10 ∷ l) (sym after);
-      bytes_are = whole_is (stop_of f.0 (f.0 + 1) room) bytes (strip_carriage_return (take f.0 rest)) (pieces room' (after_line rest)) (pieces (room - (f.0 + 1)) (drop (f.0 + 1) rest ++ [])) (sym p ∙ cut);
+      bytes_are = whole_is (limit_at f.0 (f.0 + 1) room) bytes (strip_carriage_return (take f.0 rest)) (pieces room' (after_line rest)) (pieces (room - (f.0 + 1)) (drop (f.0 + 1) rest ++ [])) (sym p ∙ cut);
     }
 
 -- nothing was read
@@ -139,7 +139,7 @@ failed_behind all text rest pending l lines room f is h few =
     )
 
 -- one line more was given
-one_given : (p p' : List ℕ) (room room' : ℕ) (left left' : Option (List ℕ)) (line : Line) → Tells room (with_front p left) (Ok (Some line)) room' (with_front p' left') → Spends room (with_front p left) room' (with_front p' left') → line.ended ≡ true
+one_given : (p p' : List ℕ) (room room' : ℕ) (left left' : Option (List ℕ)) (line : Line) → Tells room (with_read p left) (Ok (Some line)) room' (with_read p' left') → Spends room (with_read p left) room' (with_read p' left') → line.ended ≡ true
     → (all : ℕ) (text : List ℕ) (lines : List (List ℕ)) → AreBefore all text lines room p left → AreBefore all text (lines ++ line.bytes ∷ []) room' p' left'
 one_given p p' room room' None left' line t s ended all text lines g = absurd g
 one_given p p' room room' (Some l) None line t s ended all text lines g = let f = t.1 in cc
@@ -150,22 +150,22 @@ one_given p p' room room' (Some l) (Some l') line t s ended all text lines g =
     (first_more all text (p ++ l) lines line.bytes room room' g (sym t.2 ∙ ended) t.0 spends)
 
 -- more was read, and no line given
-before_still : (p p' : List ℕ) (room : ℕ) (left left' : Option (List ℕ)) → with_front p' left' ≡ with_front p left
+before_still : (p p' : List ℕ) (room : ℕ) (left left' : Option (List ℕ)) → with_read p' left' ≡ with_read p left
     → (all : ℕ) (text : List ℕ) (lines : List (List ℕ)) → AreBefore all text lines room p left → AreBefore all text lines room p' left'
 before_still p p' room None left' e all text lines g = absurd g
 before_still p p' room (Some l) None e all text lines g = cc
 before_still p p' room (Some l) (Some l') e all text lines g = let is : p ++ l ≡ p' ++ l' = cc in subst (λ (x : List ℕ). AreFirstLines all text lines room x) is g
 
 -- what a call gave, behind what it read
-pub line_goes : (p now p' : List ℕ) (room room' : ℕ) (left left' : Option (List ℕ)) (answer : Result Bool LineFault) (line : Line) → with_front now left' ≡ with_front p left
-    → Tells room (with_front now left') (line_read answer line) room' (with_front p' left') → Spends room (with_front now left') room' (with_front p' left')
+pub line_goes : (p now p' : List ℕ) (room room' : ℕ) (left left' : Option (List ℕ)) (answer : Result Bool LineFault) (line : Line) → with_read now left' ≡ with_read p left
+    → Tells room (with_read now left') (line_read answer line) room' (with_read p' left') → Spends room (with_read now left') room' (with_read p' left')
     → IfOk (line_read answer line) (λ o. IfSome o (λ given. given.ended ≡ true → (all : ℕ) (text : List ℕ) (lines : List (List ℕ)) → AreBefore all text lines room p left → AreBefore all text (lines ++ given.bytes ∷ []) room' p' left'))
 line_goes p now p' room room' left left' (Ok true) line e t s = λ ended all text lines g. one_given now p' room room' left' left' line t s ended all text lines (before_still p now room left left' e all text lines g)
 line_goes p now p' room room' left left' (Ok false) line e t s = tt
 line_goes p now p' room room' left left' (Err error) line e t s = tt
 
 -- the shelf failed
-pub failed_at : (p now : List ℕ) (room : ℕ) (left left' : Option (List ℕ)) → with_front now left' ≡ with_front p left → position is_line_end now ≡ None → length now ≤ min room longest_line
+pub failed_at : (p now : List ℕ) (room : ℕ) (left left' : Option (List ℕ)) → with_read now left' ≡ with_read p left → position is_line_end now ≡ None → length now ≤ min room longest_line
     → (all : ℕ) (text : List ℕ) (lines : List (List ℕ)) → AreBefore all text lines room p left → IsReadWithLines all text lines left'
 failed_at p now room None left' e none few all text lines g = absurd g
 failed_at p now room (Some l) None e none few all text lines g = cc

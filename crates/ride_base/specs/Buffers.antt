@@ -2,14 +2,18 @@ use Rattle.std.specs.Prelude.{◌≡◌, ℕ, ◌+◌, ◌-◌, ◌<◌, ◌≤�
 use Rattle.std.specs.List.{position_or_len}
 use Rattle.ride_base.specs.Outside.{Moves}
 use Rattle.ride_base.specs.Pieces.{is_line_end, longest_line}
-use Rattle.ride_base.specs.Reader.{Stop, Long, Large}
-use Rattle.ride_base.specs.declared.buffer.Front.{Front}
-use Rattle.ride_base.specs.declared.buffer.Front.TheVariants.{Ended, Past, Last}
+use Rattle.ride_base.specs.Reader.{Limit, Long, Large, HasNoLineEnd, longest_read}
+use Rattle.ride_base.specs.declared.buffer.LineScan.{LineScan}
+use Rattle.ride_base.specs.declared.buffer.LineScan.TheVariants.{Ended, Past, Last}
 
 -- what was read before, and what is left
-abbrev pub with_front : List ℕ → Option (List ℕ) → Option (List ℕ)
-with_front front None = None
-with_front front (Some left) = Some (front ++ left)
+abbrev pub with_read : List ℕ → Option (List ℕ) → Option (List ℕ)
+with_read read None = None
+with_read read (Some left) = Some (read ++ left)
+
+-- no byte of the text was lost: what was read and not given, and what is left, are together what they were
+abbrev pub LosesNothing : {S : Type 0} → (left : S → Option (List ℕ)) → List ℕ → S → List ℕ → S → Type 0
+LosesNothing left old shelf new shelf' = with_read new (left shelf') ≡ with_read old (left shelf)
 
 -- the next k bytes of what is left came to the end of the bytes, and none only at the end of the text
 pub record Gains (old new : List ℕ) (left left' : Option (List ℕ)) (k : ℕ) : Type 0 where
@@ -18,26 +22,20 @@ pub record Gains (old new : List ℕ) (left left' : Option (List ℕ)) (k : ℕ)
   pub added : new ≡ old ++ take k piece
   pub moved : Moves left left' piece k
 
--- where the first line of the bytes read ends, no line end being read where there are more than so many bytes
-abbrev pub FrontOf : List ℕ → ℕ → Front → Type 0
-FrontOf bytes most (Ended at) = position is_line_end bytes ≡ Some at
-FrontOf bytes most Past = (position is_line_end bytes ≡ None) × (most < length bytes)
-FrontOf bytes most Last = position is_line_end bytes ≡ None
+-- the same, where a shelf tells what is left
+abbrev pub Brings : {S : Type 0} → (left : S → Option (List ℕ)) → List ℕ → S → List ℕ → S → ℕ → Type 0
+Brings left old shelf new shelf' k = Gains old new (left shelf) (left shelf') k
 
 -- nothing is left, where that is told
 abbrev pub IsAtEnd : Option (List ℕ) → Type 0
 IsAtEnd None = Unit {0}
 IsAtEnd (Some left) = left ≡ []
 
--- the text is at its end where the last line was found so
-abbrev pub MayEnd : Front → Option (List ℕ) → Type 0
-MayEnd (Ended at) left = Unit {0}
-MayEnd Past left = Unit {0}
-MayEnd Last left = IsAtEnd left
-
--- the most bytes that one read asks for
-abbrev pub longest_read : ℕ
-longest_read = 16384
+-- where the first line of the bytes read ends, which may have so many, where so much of the text is left
+abbrev pub IsScanOf : List ℕ → (most : ℕ) → (left : Option (List ℕ)) → LineScan → Type 0
+IsScanOf bytes most left (Ended at) = position is_line_end bytes ≡ Some at
+IsScanOf bytes most left Past = HasNoLineEnd bytes × (most < length bytes)
+IsScanOf bytes most left Last = HasNoLineEnd bytes × IsAtEnd left
 
 -- Where bytes came, what was held and what came go at most one read past the first line end of the text, and past `most` bytes where
 -- the line is longer. It is said where the text is told.
@@ -53,10 +51,10 @@ CameAtMost most None left' = Unit {0}
 CameAtMost most (Some left) None = ⊥
 CameAtMost most (Some left) (Some left') = length left ≤ length left' + most
 
--- why a line of that length, which takes so many bytes with its end, is refused where there is room for so many
-abbrev pub stop_of : (length size room : ℕ) → Option Stop
-stop_of length size room = cond (nat_lt longest_line length && nat_le longest_line room) (Some Long) (cond (nat_lt room size) (Some Large) None)
+-- the limit that a line of that length meets, which takes so many bytes with its end, where there is room for so many
+abbrev pub limit_at : (length size room : ℕ) → Option Limit
+limit_at length size room = cond (nat_lt longest_line length && nat_le longest_line room) (Some Long) (cond (nat_lt room size) (Some Large) None)
 
--- why a text is refused where more bytes were read than a line or the text may have, none of which is a line end
-abbrev pub stop_past : ℕ → Stop
-stop_past room = cond (nat_lt room longest_line) Large Long
+-- the limit that a text met where more bytes were read than a line or the text may have, none of which is a line end
+abbrev pub limit_past : ℕ → Limit
+limit_past room = cond (nat_lt room longest_line) Large Long

@@ -16,6 +16,10 @@ has_bytes part = not (length part == 0)
 abbrev pub fields_of : List ℕ → List (List ℕ)
 fields_of line = filter has_bytes (slice_split is_blank line)
 
+-- a line begins with that field, and the rest has its other ones
+abbrev pub IsCut : (line field rest : List ℕ) → Type 0
+IsCut line field rest = fields_of line ≡ field ∷ fields_of rest
+
 -- digits alone, one at least
 abbrev pub is_number : List ℕ → Bool
 is_number bytes = has_bytes bytes && are_digits bytes

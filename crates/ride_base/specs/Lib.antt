@@ -7,5 +7,5 @@ pub mod Digits
 pub mod Fields
 pub mod Stored
 pub mod Buffers
-pub mod Stops
+pub mod Limits
 pub mod Told

@@ -19,10 +19,10 @@ pub data Piece : Type 0 where
   TooLong : Piece
   TooLarge : Piece
 
--- A part between line ends, with what follows it. `size` is what it takes of the room that the text has left, its end included.
+-- The pieces from a part between line ends on, with what follows it. `size` is what it takes of the room that the text has left, its end included.
 -- The earlier of the two limits is the one that is met first: byte 65,537 of the line, or the first byte past the room.
-abbrev pub judged : (room size : ℕ) (part line : List ℕ) → List Piece → List Piece
-judged room size part line rest =
+abbrev pub pieces_from : (room size : ℕ) (part line : List ℕ) → List Piece → List Piece
+pieces_from room size part line rest =
     cond (nat_lt longest_line (length part) && nat_le longest_line room) (TooLong ∷ [])
     (cond (nat_lt room size) (TooLarge ∷ []) (Whole line ∷ rest))
 
@@ -30,9 +30,9 @@ judged room size part line rest =
 -- and keeps a CR at its end; each other part loses one.
 abbrev pub pieces_of_parts : ℕ → List (List ℕ) → List Piece
 pieces_of_parts room [] = []
-pieces_of_parts room (part ∷ []) = cond (length part == 0) [] (judged room (length part) part part [])
+pieces_of_parts room (part ∷ []) = cond (length part == 0) [] (pieces_from room (length part) part part [])
 pieces_of_parts room (part ∷ next ∷ more) =
-    judged room (length part + 1) part (strip_carriage_return part) (pieces_of_parts (room - (length part + 1)) (next ∷ more))
+    pieces_from room (length part + 1) part (strip_carriage_return part) (pieces_of_parts (room - (length part + 1)) (next ∷ more))
 
 -- the pieces of a text that may have so many bytes
 abbrev pub pieces : ℕ → List ℕ → List Piece

@@ -56,9 +56,19 @@ AreBefore all text lines room pending (Some left) = AreFirstLines all text lines
 abbrev pub AreGiven : (all : ℕ) → (text : List ℕ) → (lines : List (List ℕ)) → Reader → (left : Option (List ℕ)) → Type 0
 AreGiven all text lines reader left = AreBefore all text lines reader.room reader.pending left
 
--- the shelf failed where exactly these lines are ended among what was read
+-- exactly these lines are ended among what was read
 abbrev pub IsReadWithLines : (all : ℕ) → (text : List ℕ) → (lines : List (List ℕ)) → (left : Option (List ℕ)) → Type 0
 IsReadWithLines all text lines left = (r : IsReadTo all text left) × (ended_lines r.read ≡ lines)
+
+-- whichever lines a reader gave, exactly they are ended among what was read
+abbrev pub HasReadGiven : {S : Type 0} → (left : S → Option (List ℕ)) → Reader → S → S → Type 0
+HasReadGiven left reader shelf shelf' =
+    (all : ℕ) (text : List ℕ) (lines : List (List ℕ)) → AreGiven all text lines reader (left shelf) → IsReadWithLines all text lines (left shelf')
+
+-- whichever lines a reader gave, it has given one more
+abbrev pub HasGivenMore : {S : Type 0} → (left : S → Option (List ℕ)) → Reader → S → (line : List ℕ) → Reader → S → Type 0
+HasGivenMore left old shelf line new shelf' =
+    (all : ℕ) (text : List ℕ) (lines : List (List ℕ)) → AreGiven all text lines old (left shelf) → AreGiven all text (lines ++ line ∷ []) new (left shelf')
 
 behind_two : behind_line_ends (97 ∷ 10 ∷ 98 ∷ 10 ∷ 99 ∷ []) ≡ 99 ∷ []
 behind_two = refl

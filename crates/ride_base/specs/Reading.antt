@@ -1,7 +1,8 @@
-use Rattle.std.specs.Prelude.{◌≡◌, ℕ, ◌+◌, ◌<◌, ◌≤◌, ◌++◌, not, Bool, true, false, List, [], ◌∷◌, length, Option, Some, None, Result, Ok, Err}
+use Rattle.std.specs.Prelude.{◌≡◌, ℕ, ◌+◌, ◌<◌, ◌≤◌, ◌++◌, not, Bool, true, false, List, [], ◌∷◌, length, IfOk, IfSome, Option, Some, None, Result, Ok, Err}
 use Rattle.ride_base.specs.Pieces.{Whole, TooLong, TooLarge, pieces, after_line, is_ended}
-use Rattle.ride_base.specs.Buffers.{with_front}
-use Rattle.ride_base.specs.Reader.{Reader, Stop, Long as StopLong, Large as StopLarge}
+use Rattle.ride_base.specs.Buffers.{with_read, IsAtEnd, IsWithinARead}
+use Rattle.ride_base.specs.Prefixes.{HasGivenMore}
+use Rattle.ride_base.specs.Reader.{Reader, Limit, Long as LineLimit, Large as TextLimit, most_line}
 use Rattle.ride_base.specs.declared.buffer.ReadFault.{ReadFault}
 use Rattle.ride_base.specs.declared.buffer.ReadFault.TheVariants.{Failed, NoMemory as ReadNoMemory}
 use Rattle.ride_base.specs.declared.lines.Line.{Line}
@@ -10,7 +11,7 @@ use Rattle.ride_base.specs.declared.lines.LineFault.TheVariants.{Fault, Long, La
 
 -- what has not been given: what was read before, and what is left
 abbrev pub unread : Reader → Option (List ℕ) → Option (List ℕ)
-unread reader left = with_front reader.pending left
+unread reader left = with_read reader.pending left
 
 -- What an answer says of the text that was not given before, where it is told, and what then is not given. `room` and `room'` are
 -- the bytes that may be given before and after.
@@ -42,13 +43,13 @@ Counts old (Ok None) new = (new.given ≡ old.given) × (new.room ≡ old.room)
 Counts old (Ok (Some line)) new = (line.number ≡ old.given + 1) × (new.given ≡ old.given + 1) × (new.room < old.room)
 Counts old (Err error) new = (new.given ≡ old.given) × (new.room ≡ old.room)
 
--- whether a reader is stopped after an answer
-abbrev pub stop_after : Result (Option Line) LineFault → Option Stop
-stop_after (Ok line) = None
-stop_after (Err Fault) = None
-stop_after (Err Long) = Some StopLong
-stop_after (Err Large) = Some StopLarge
-stop_after (Err NoMemory) = None
+-- the limit at which a reader is stopped after an answer
+abbrev pub limit_after : Result (Option Line) LineFault → Option Limit
+limit_after (Ok line) = None
+limit_after (Err Fault) = None
+limit_after (Err Long) = Some LineLimit
+limit_after (Err Large) = Some TextLimit
+limit_after (Err NoMemory) = None
 
 -- whether a reader gave all after an answer, where it had or hadn't before
 abbrev pub over_after : Bool → Result (Option Line) LineFault → Bool
@@ -57,9 +58,9 @@ over_after before (Ok (Some line)) = not line.ended
 over_after before (Err error) = before
 
 -- what a stopped reader answers
-abbrev pub fault_of : Stop → LineFault
-fault_of StopLong = Long
-fault_of StopLarge = Large
+abbrev pub fault_of : Limit → LineFault
+fault_of LineLimit = Long
+fault_of TextLimit = Large
 
 -- how a reader tells that no bytes were read
 abbrev pub fault_of_read : ReadFault → LineFault
@@ -77,3 +78,41 @@ TellsWhole (Some text) limit (Err Fault) None = ⊥
 TellsWhole (Some text) limit (Err Fault) (Some after) = (lost : List ℕ) × (length lost ≤ limit) × (text ≡ lost ++ after)
 TellsWhole (Some text) limit (Err error) None = ⊥
 TellsWhole (Some text) limit (Err error) (Some after) = (lost : List ℕ) × (text ≡ lost ++ after)
+
+-- What the call for the next line promises. `left` tells what is left on a shelf, `old` and `shelf` are the reader and the shelf before
+-- the call, `new` and `shelf'` after it.
+
+-- what its answer says of the text, where the reader was neither stopped nor over
+abbrev pub TellsNext : {S : Type 0} → (left : S → Option (List ℕ)) → Reader → S → Result (Option Line) LineFault → Reader → S → Type 0
+TellsNext left old shelf answer new shelf' =
+    old.stopped ≡ None → old.over ≡ false → Tells old.room (unread old (left shelf)) answer new.room (unread new (left shelf'))
+
+abbrev pub SpendsNext : {S : Type 0} → (left : S → Option (List ℕ)) → Reader → S → Reader → S → Type 0
+SpendsNext left old shelf new shelf' = Spends old.room (unread old (left shelf)) new.room (unread new (left shelf'))
+
+-- a reader that gave all gives no line, and nothing moves
+abbrev pub StaysOver : {S X : Type 0} → (none : X) → Reader → S → Result X LineFault → Reader → S → Type 0
+StaysOver none old shelf answer new shelf' = old.stopped ≡ None → old.over ≡ true → (answer ≡ Ok none) × (new ≡ old) × (shelf' ≡ shelf)
+
+-- a stopped reader tells its limit again, and nothing moves
+abbrev pub StaysStopped : {S X : Type 0} → Reader → S → Result X LineFault → Reader → S → Type 0
+StaysStopped old shelf answer new shelf' = IfSome old.stopped (λ limit. (answer ≡ Err (fault_of limit)) × (new ≡ old) × (shelf' ≡ shelf))
+
+-- where the answer is an ended line, the reader has given one line more
+abbrev pub GivesOneMore : {S : Type 0} → (left : S → Option (List ℕ)) → Reader → S → Result (Option Line) LineFault → Reader → S → Type 0
+GivesOneMore left old shelf answer new shelf' = IfOk answer (λ o. IfSome o (λ line. line.ended ≡ true → HasGivenMore left old shelf line.bytes new shelf'))
+
+-- what was read goes at most one read past the next line
+abbrev pub IsNear : {S : Type 0} → (left : S → Option (List ℕ)) → Reader → S → S → Type 0
+IsNear left old shelf shelf' = IsWithinARead (most_line old) old.pending (left shelf) (left shelf')
+
+-- The same of a call that reads nothing, whatever is left.
+abbrev pub TellsStill : Reader → Result (Option Line) LineFault → Reader → Type 0
+TellsStill old answer new = (left : Option (List ℕ)) → Tells old.room (unread old left) answer new.room (unread new left)
+
+-- the same at the end of the text
+abbrev pub TellsAtEnd : Reader → Result (Option Line) LineFault → Reader → Type 0
+TellsAtEnd old answer new = (left : Option (List ℕ)) → IsAtEnd left → Tells old.room (unread old left) answer new.room (unread new left)
+
+abbrev pub SpendsStill : Reader → Reader → Type 0
+SpendsStill old new = (left : Option (List ℕ)) → Spends old.room (unread old left) new.room (unread new left)

@@ -1,11 +1,11 @@
-use Rattle.std.specs.Prelude.{◌≡◌, ℕ, ◌-◌, ◌^◌, ◌==◌, min, Bool, true, false, ◌&&◌, ◌||◌, not, cond, List, [], ◌∷◌, ◌++◌, length, take, drop, Option, Some, None, Result, Ok, IsErr, slice_get, codes, refl}
+use Rattle.std.specs.Prelude.{◌≡◌, ℕ, ◌-◌, ◌^◌, ◌==◌, min, Bool, true, false, ◌&&◌, ◌||◌, not, cond, List, [], ◌∷◌, ◌++◌, length, take, drop, Option, Some, None, Result, Ok, IsErr, IsSome, IfSome, IsTrue, slice_get, codes, refl}
 use Rattle.std.specs.List.{list_any}
 use Rattle.std.specs.Str.{bytes_eq}
-use Rattle.ride_base.specs.Outside.{Held, Absent, Text, raised}
+use Rattle.ride_base.specs.Outside.{Held, Absent, Text, OnlyRead, raised}
 use Rattle.ride_base.specs.declared.outside.Failed.{Failed}
 use Rattle.ride_base.specs.declared.memory.StoredText.{StoredText}
 use Rattle.ride_base.specs.declared.memory.FailingCall.{FailingCall}
-use Rattle.ride_base.specs.declared.memory.Place.{Place}
+use Rattle.ride_base.specs.declared.memory.Progress.{Progress}
 
 -- the text that is begun: its name, what is left of it, and the reads since it was begun
 pub record Begun : Type 0 where
@@ -24,11 +24,11 @@ pub record Store : Type 0 where
   pub faults : ℕ
 
 -- what a place in the texts shows: the name of its text, and what is left of it
-abbrev pub shown_in : Place → Option StoredText → Option Begun
+abbrev pub shown_in : Progress → Option StoredText → Option Begun
 shown_in place None = None
 shown_in place (Some text) = Some (record { name = text.name; left = drop place.at text.bytes; reads = place.reads })
 
-abbrev pub shown : List StoredText → Option Place → Option Begun
+abbrev pub shown : List StoredText → Option Progress → Option Begun
 shown texts None = None
 shown texts (Some place) = shown_in place (slice_get texts place.text)
 
@@ -63,6 +63,29 @@ abbrev pub left_of : Option Begun → Option (List ℕ)
 left_of None = None
 left_of (Some begun) = Some begun.left
 
+abbrev pub left_in : Store → Option (List ℕ)
+left_in store = left_of store.begun
+
+-- a text is begun
+abbrev pub HasBegun : Store → Type 0
+HasBegun store = IsSome store.begun
+
+-- no call is listed as failing
+abbrev pub IsSureStore : Store → Type 0
+IsSureStore store = store.failing ≡ []
+
+-- the shelf was only read
+abbrev pub OnlyReadStore : Store → Store → Type 0
+OnlyReadStore old new = OnlyRead HasBegun (λ store. held_in store.texts) (λ store. store.names) IsSureStore (λ store. store.faults) old new
+
+-- the shelf with one text more
+abbrev pub with_text : Store → (name bytes : List ℕ) → Store
+with_text store name bytes = record store { texts = store.texts ++ (record { name = name; bytes = bytes }) ∷ [] }
+
+-- the shelf with one failing call more
+abbrev pub with_failing : Store → (name : List ℕ) → (call : ℕ) → Store
+with_failing store name call = record store { failing = store.failing ++ (record { name = name; call = call }) ∷ [] }
+
 abbrev pub is_text : Held → Bool
 is_text (Text bytes) = true
 is_text held = false
@@ -91,6 +114,14 @@ after_begin store name = record store {
 abbrev pub after_refusal : Store → List ℕ → Store
 after_refusal store name = record store { names = store.names ++ name ∷ []; begun = None; faults = raised store.faults }
 
+-- that text is begun
+abbrev pub BeginsText : Store → List ℕ → Store → Type 0
+BeginsText old name new = IsTrue (can_begin old name) × (new ≡ after_begin old name)
+
+-- that text can't be begun
+abbrev pub RefusesText : Store → List ℕ → Store → Type 0
+RefusesText old name new = (can_begin old name ≡ false) × (new ≡ after_refusal old name)
+
 -- whether the next read of that text fails
 abbrev pub read_fails : Store → Begun → Bool
 read_fails store begun = is_listed store.failing begun.name (raised begun.reads)
@@ -113,6 +144,10 @@ pub record Reads (old new : Store) (begun : Begun) (piece piece' : List ℕ) (an
   pub moved : read_fails old begun ≡ false → (answer ≡ Ok (read_count old begun (length piece))) × (new ≡ after_read old begun (read_count old begun (length piece)))
       × (piece' ≡ take (read_count old begun (length piece)) begun.left ++ drop (read_count old begun (length piece)) piece)
 
+-- the same of the text that is begun
+abbrev pub ReadsText : (old new : Store) → (piece piece' : List ℕ) → Result ℕ Failed → Type 0
+ReadsText old new piece piece' answer = IfSome old.begun (λ begun. Reads old new begun piece piece' answer)
+
 -- A sink over memory: what it took, how many bytes it takes in all, the puts that fail, counted from 1, the puts so far, and the
 -- count of faults.
 pub record Basin : Type 0 where
@@ -125,6 +160,10 @@ pub record Basin : Type 0 where
 -- the sink that took nothing
 abbrev pub empty_basin : ℕ → Basin
 empty_basin room = record { taken = []; room = room; failing = []; puts = 0; faults = 0 }
+
+-- the sink with one failing put more
+abbrev pub with_failing_put : Basin → ℕ → Basin
+with_failing_put basin call = record basin { failing = basin.failing ++ call ∷ [] }
 
 -- whether the next put fails
 abbrev pub put_fails : Basin → Bool

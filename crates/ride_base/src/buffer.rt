@@ -1,9 +1,10 @@
-ghost use Rattle.std.specs.Prelude.{◌≡◌, ℕ, ◌<◌, ◌≤◌, ◌+◌, ◌++◌, List, [], length, take, drop, position, Option, Some, None, OnOk, OnErr, IfOk, IsOk, IsSome, Err};
+ghost use Rattle.std.specs.Prelude.{◌≡◌, ◌≢◌, ℕ, ◌<◌, ◌≤◌, ◌+◌, ◌++◌, List, [], length, take, drop, position, Option, Some, None, OnOk, OnErr, IfOk, IsOk, IsSome, Err};
 ghost use Rattle.std.specs.List.{position_or_len};
 ghost use Rattle.std.specs.Str.Lines.{strip_carriage_return};
-ghost use Rattle.ride_base.specs.Outside.{Rose, OnlyRead};
-ghost use Rattle.ride_base.specs.Pieces.{is_line_end};
-ghost use Rattle.ride_base.specs.Buffers.{with_front, Gains, FrontOf, MayEnd, IsWithinARead, longest_read};
+ghost use Rattle.ride_base.specs.Outside.{CountRose, CountStays, OnlyRead};
+ghost use Rattle.ride_base.specs.Pieces.{is_line_end, longest_line};
+ghost use Rattle.ride_base.specs.Buffers.{Brings, IsScanOf, IsWithinARead, LosesNothing};
+ghost use Rattle.ride_base.specs.Reader.{HasNoLineEnd, longest_read, most_held};
 
 use crate::items::{Items, NoMemory};
 use crate::outside::{Failed, Shelf};
@@ -21,9 +22,9 @@ pub enum ReadFault {
     NoMemory,
 }
 
-/// Where the first line of the bytes read ends.
+/// What a scan for the end of the first line came to.
 #[derive(Clone, Copy, Debug)]
-pub enum Front {
+pub enum LineScan {
     /// So many bytes stand before its line end.
     Ended(usize),
     /// No line end was read, and there are more bytes than the line may have.
@@ -33,7 +34,7 @@ pub enum Front {
 }
 
 /// Bytes that were read and not given. Bytes that were given stay before `start` until the next read, and the `searched` bytes
-/// behind it have no line end.
+/// behind it have no line end. In all they are at most those of a longest line and of one read, 81,920.
 #[derive(Drop)]
 pub struct Buffer {
     bytes: Vec<u8>,
@@ -43,14 +44,14 @@ pub struct Buffer {
 
 impl Model for Buffer {
     ghost use Rattle.std.specs.Prelude.{List, ℕ, drop, ◌≤◌, length};
-    ghost use Rattle.std.specs.List.{position_or_len};
-    ghost use Rattle.ride_base.specs.Pieces.{is_line_end};
+    ghost use Rattle.ride_base.specs.Reader.{IsSearched, most_held};
 
     ghost Value = { List ℕ };
 
     ghost view = { λ a. drop a.start a.bytes.items };
 
-    ghost invariant = { λ a. (a.start ≤ length a.bytes.items) × (a.searched ≤ position_or_len is_line_end (drop a.start a.bytes.items)) };
+    ghost invariant = { λ a. IsSearched a.start a.searched a.bytes.items
+        × (length a.bytes.items ≤ most_held) };
 }
 
 impl Buffer {
@@ -84,11 +85,16 @@ impl Buffer {
 
     /// Reads once more, and answers how many bytes came: 0 only at the end of the text.
     fn read<S: Shelf>(&mut self, shelf: &mut S) -> Result<usize, ReadFault>
-        requires { S.IsBegun shelf.old }
-        ensures ok { IfOk result (λ k. Gains self.old self.new (S.left shelf.old) (S.left shelf.new) k) }
+        requires begun { S.IsBegun shelf.old }
+        requires few { length self.old ≤ longest_line }
+        ensures ok { IfOk result (Brings S.left self.old shelf.old self.new shelf.new) }
         ensures small { IfOk result (λ k. k ≤ longest_read) }
-        ensures err { OnErr result ((self.new ≡ self.old) × (S.left shelf.new ≡ S.left shelf.old)) }
-        ensures rose { result ≡ Err ReadFault.Failed → Rose (S.faults shelf.old) (S.faults shelf.new) }
+        ensures held { length self.new ≤ most_held }
+        ensures kept { OnErr result (self.new ≡ self.old) }
+        ensures left { OnErr result (S.left shelf.new ≡ S.left shelf.old) }
+        ensures unread { result ≡ Err ReadFault.NoMemory → shelf.new ≡ shelf.old }
+        ensures rose { result ≡ Err ReadFault.Failed → CountRose S.faults shelf.old shelf.new }
+        ensures quiet { S.IsQuiet → IsOk result → CountStays S.faults shelf.old shelf.new }
         ensures surely { S.IsSure shelf.old → result ≡ Err ReadFault.Failed → ⊥ }
         ensures shelf { OnlyRead S.IsBegun S.held S.names S.IsSure S.faults shelf.old shelf.new }
     {
@@ -98,13 +104,18 @@ impl Buffer {
     }
 
     /// Reads until a line end is there, or more bytes than `most`, or the text is at its end.
-    pub fn front<S: Shelf>(&mut self, shelf: &mut S, most: usize) -> Result<Front, ReadFault>
-        requires { S.IsBegun shelf.old }
-        ensures front { IfOk result (λ front. FrontOf self.new most front × MayEnd front (S.left shelf.new)) }
-        ensures unread { with_front self.new (S.left shelf.new) ≡ with_front self.old (S.left shelf.old) }
-        ensures unended { OnErr result (position is_line_end self.new ≡ None) }
+    pub fn scan<S: Shelf>(&mut self, shelf: &mut S, most: usize) -> Result<LineScan, ReadFault>
+        requires begun { S.IsBegun shelf.old }
+        requires most { most ≤ longest_line }
+        requires held { length self.old ≤ most_held }
+        ensures scan { IfOk result (IsScanOf self.new most (S.left shelf.new)) }
+        ensures unread { LosesNothing S.left self.old shelf.old self.new shelf.new }
+        ensures held { length self.new ≤ most_held }
+        ensures unended { OnErr result (HasNoLineEnd self.new) }
         ensures few { OnErr result (length self.new ≤ most) }
-        ensures rose { result ≡ Err ReadFault.Failed → Rose (S.faults shelf.old) (S.faults shelf.new) }
+        ensures rose { result ≡ Err ReadFault.Failed → CountRose S.faults shelf.old shelf.new }
+        ensures quiet { S.IsQuiet → result ≢ Err ReadFault.Failed
+            → CountStays S.faults shelf.old shelf.new }
         ensures surely { S.IsSure shelf.old → result ≡ Err ReadFault.Failed → ⊥ }
         ensures holds { IsSome (position is_line_end self.old) → shelf.new ≡ shelf.old }
         ensures near { IsWithinARead most self.old (S.left shelf.old) (S.left shelf.new) }
@@ -112,13 +123,13 @@ impl Buffer {
     {
         loop {
             if let Some(at) = self.find() {
-                return Ok(Front::Ended(at));
+                return Ok(LineScan::Ended(at));
             }
             if self.len() > most {
-                return Ok(Front::Past);
+                return Ok(LineScan::Past);
             }
             if self.read(shelf)? == 0 {
-                return Ok(Front::Last);
+                return Ok(LineScan::Last);
             }
         }
     }
@@ -183,10 +194,13 @@ fn stripped(bytes: &[u8]) -> &[u8]
 /// so that no byte of the text is lost.
 pub fn read_piece<S: Shelf>(shelf: &mut S, bytes: &mut Vec<u8>) -> Result<usize, ReadFault>
     requires { S.IsBegun shelf.old }
-    ensures ok { IfOk result (λ k. Gains bytes.old.items bytes.new.items (S.left shelf.old) (S.left shelf.new) k) }
+    ensures ok { IfOk result (Brings S.left bytes.old.items shelf.old bytes.new.items shelf.new) }
     ensures small { IfOk result (λ k. k ≤ longest_read) }
-    ensures err { OnErr result ((bytes.new.items ≡ bytes.old.items) × (S.left shelf.new ≡ S.left shelf.old)) }
-    ensures rose { result ≡ Err ReadFault.Failed → Rose (S.faults shelf.old) (S.faults shelf.new) }
+    ensures kept { OnErr result (bytes.new.items ≡ bytes.old.items) }
+    ensures left { OnErr result (S.left shelf.new ≡ S.left shelf.old) }
+    ensures unread { result ≡ Err ReadFault.NoMemory → shelf.new ≡ shelf.old }
+    ensures rose { result ≡ Err ReadFault.Failed → CountRose S.faults shelf.old shelf.new }
+    ensures quiet { S.IsQuiet → IsOk result → CountStays S.faults shelf.old shelf.new }
     ensures surely { S.IsSure shelf.old → result ≡ Err ReadFault.Failed → ⊥ }
     ensures shelf { OnlyRead S.IsBegun S.held S.names S.IsSure S.faults shelf.old shelf.new }
 {

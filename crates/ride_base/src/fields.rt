@@ -1,11 +1,12 @@
-ghost use Rattle.std.specs.Prelude.{◌≡◌, ◌<◌, ◌≤◌, length, [], ◌∷◌, position, Some, MatchOption, IfSome};
+ghost use Rattle.std.specs.Prelude.{◌≡◌, ◌<◌, ◌≤◌, length, [], position, Some, MatchOption, IfSome};
 ghost use Rattle.std.specs.List.{position_or_len};
-ghost use Rattle.ride_base.specs.Fields.{fields_of, is_blank as is_blank_of, is_unblank, begins_comment as begins_comment_of, capped_of};
+ghost use Rattle.ride_base.specs.Fields.{IsCut, fields_of, is_blank as is_blank_of, is_unblank, begins_comment as begins_comment_of, capped_of};
 
 /// The first field of a line, and what stands behind it. Fields are parted by one or more spaces or tabs. None exactly where no field
 /// is left.
 pub fn next_field(line: &[u8]) -> Option<(&[u8], &[u8])>
-    ensures field { MatchOption result (fields_of line.now ≡ []) (λ parts. fields_of line.now ≡ parts.0.now ∷ fields_of parts.1.now) }
+    ensures field { MatchOption result (fields_of line.now ≡ [])
+        (λ cut. IsCut line.now cut.0.now cut.1.now) }
     ensures some { IfSome result (λ parts. 0 < length parts.0.now) }
     ensures shorter { IfSome result (λ parts. length parts.1.now < length line.now) }
 {

@@ -48,6 +48,8 @@ impl<'a, R: Files> Shelf for HostShelf<'a, R> {
 
     ghost faults = { λ s. s.faults };
 
+    ghost IsQuiet = { Unit {0} };
+
     fn begin(&mut self, name: &str) -> Result<(), BeginFault> {
         let Ok(copy) = Items::from_slice(self.alloc, name.as_bytes()) else {
             return Err(BeginFault::NoMemory);

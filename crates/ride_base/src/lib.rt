@@ -1,4 +1,11 @@
-//! What each layer of the dispatcher stands on: lists, texts that come in pieces, lines and numbers.
+//! The base of all layers: lists that contracts see as lists, texts that come in pieces from a shelf, their lines, fields and numbers,
+//! and a sink for what is printed.
+//! Readers of lines go by the clauses of `Lines::read_line` and `Lines::next`: `tells` (which piece of the text an answer is), `counts`
+//! and `few` of `given` (the number of a line), `goes` and `failed` (which lines a reader gave, and that no other was read where the shelf
+//! failed), `near` and `held` (no more than one read past a line is read, and so much is held), `rose` and `quiet` (a fault that was
+//! counted is told as one). A text that is read at once goes by `tells`, `near` and `short` of `whole`. All of them keep `OnlyRead` of the
+//! shelf, and what was printed goes by `ok` and `err` of `write_whole`. Fields and numbers are exact: `next_field`, `number`,
+//! `capped_number`. Laws of shelves and lines stand in `proofs/ShelfLaws.antt` and `proofs/LineLaws.antt`.
 #![tactic(auto)]
 
 mod buffer;

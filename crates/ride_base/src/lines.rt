@@ -1,14 +1,13 @@
-ghost use Rattle.std.specs.Prelude.{◌≡◌, ℕ, ◌<◌, ◌≤◌, ◌+◌, ◌^◌, List, [], ◌∷◌, ◌++◌, true, false, Ok, IfOk, length, min, cond, position, Option, Some, None, OnErr, IfSome, IsSome, Err};
-ghost use Rattle.ride_base.specs.Outside.{Rose, OnlyRead};
+ghost use Rattle.std.specs.Prelude.{◌≡◌, ◌≢◌, ℕ, ◌<◌, ◌≤◌, ◌+◌, ◌^◌, List, [], false, Ok, length, min, cond, position, Option, Some, None, IfSome, IsSome, Err};
+ghost use Rattle.ride_base.specs.Outside.{CountRose, CountStays, OnlyRead};
 ghost use Rattle.ride_base.specs.Pieces.{is_line_end, longest_line};
-ghost use Rattle.ride_base.specs.Reader.{Reader};
-ghost use Rattle.ride_base.specs.Buffers.{stop_of, stop_past as past_stop, IsAtEnd, IsWithinARead};
-ghost use Rattle.ride_base.specs.Stops.{shown_stop};
-ghost use Rattle.ride_base.specs.declared.lines.Line.{Line as LineOf};
-ghost use Rattle.ride_base.specs.Reading.{unread, Tells, Counts, Spends, line_read, stop_after, over_after, fault_of};
-ghost use Rattle.ride_base.specs.Prefixes.{AreGiven, IsReadWithLines};
+ghost use Rattle.ride_base.specs.Reader.{HasNoLineEnd, most_held, most_line, new_reader};
+ghost use Rattle.ride_base.specs.Buffers.{limit_at as limit_of, limit_past as past_limit};
+ghost use Rattle.ride_base.specs.Limits.{shown_limit};
+ghost use Rattle.ride_base.specs.Reading.{Counts, GivesOneMore, IsNear, SpendsNext, SpendsStill, StaysOver, StaysStopped, TellsAtEnd, TellsNext, TellsStill, fault_of, limit_after, line_read, over_after};
+ghost use Rattle.ride_base.specs.Prefixes.{AreGiven, HasReadGiven};
 
-use crate::buffer::{Buffer, Front, ReadFault};
+use crate::buffer::{Buffer, LineScan, ReadFault};
 use crate::items::{Items, NoMemory};
 use crate::outside::Shelf;
 use std::alloc::Global;
@@ -85,20 +84,20 @@ impl From<ReadFault> for LineFault {
     }
 }
 
-/// Why a text is refused at a place.
+/// A limit that a text met, and at which it is refused.
 #[derive(Clone, Copy, Debug)]
-pub enum Stop {
+pub enum Limit {
     Long,
     Large,
 }
 
-impl Stop {
+impl Limit {
     fn fault(self) -> LineFault
-        ensures { IfSome (shown_stop (Some self)) (λ stop. result ≡ fault_of stop) }
+        ensures { IfSome (shown_limit (Some self)) (λ limit. result ≡ fault_of limit) }
     {
         match self {
-            Stop::Long => LineFault::Long,
-            Stop::Large => LineFault::Large,
+            Limit::Long => LineFault::Long,
+            Limit::Large => LineFault::Large,
         }
     }
 }
@@ -110,27 +109,33 @@ pub struct Lines {
     pending: Buffer,
     given: u64,
     room: u64,
-    stopped: Option<Stop>,
+    stopped: Option<Limit>,
     over: bool,
 }
 
 impl Model for Lines {
-    ghost use Rattle.std.specs.Prelude.{◌+◌, ◌≤◌, ◌^◌};
-    ghost use Rattle.ride_base.specs.Reader.{Reader};
-    ghost use Rattle.ride_base.specs.Stops.{shown_stop};
+    ghost use Rattle.std.specs.Prelude.{◌+◌, ◌≤◌, ◌^◌, length};
+    ghost use Rattle.ride_base.specs.Reader.{Reader, most_held};
+    ghost use Rattle.ride_base.specs.Limits.{shown_limit};
 
     ghost Value = { Reader };
 
-    ghost view = { λ a. record { pending = a.pending; given = a.given; room = a.room; stopped = shown_stop a.stopped; over = a.over } };
+    ghost view = { λ a. record {
+      pending = a.pending;
+      given = a.given;
+      room = a.room;
+      stopped = shown_limit a.stopped;
+      over = a.over;
+    } };
 
-    ghost invariant = { λ a. a.given + a.room ≤ 2 ^ 30 };
+    ghost invariant = { λ a. (a.given + a.room ≤ 2 ^ 30) × (length a.pending ≤ most_held) };
 }
 
 impl Lines {
     /// The lines of a text that may have so many bytes. It takes no memory.
     pub fn new(alloc: Global, limit: u64) -> Lines
         requires { limit ≤ 2 ^ 30 }
-        ensures fresh { result ≡ record { pending = []; given = 0; room = limit; stopped = None; over = false } }
+        ensures fresh { result ≡ new_reader limit }
         ensures none { (text : List ℕ) → AreGiven limit text [] result (Some text) }
     {
         Lines {
@@ -159,21 +164,25 @@ impl Lines {
         shelf: &mut S,
     ) -> Result<Option<Line>, LineFault>
         requires { S.IsBegun shelf.old }
-        ensures tells { self.old.stopped ≡ None → self.old.over ≡ false → Tells self.old.room (unread self.old (S.left shelf.old)) result self.new.room (unread self.new (S.left shelf.new)) }
-        ensures spends { Spends self.old.room (unread self.old (S.left shelf.old)) self.new.room (unread self.new (S.left shelf.new)) }
+        ensures tells { TellsNext S.left self.old shelf.old result self.new shelf.new }
+        ensures spends { SpendsNext S.left self.old shelf.old self.new shelf.new }
         ensures counts { Counts self.old result self.new }
-        ensures stops { self.new.stopped ≡ stop_after result }
+        ensures stops { self.new.stopped ≡ limit_after result }
         ensures over { self.new.over ≡ over_after self.old.over result }
-        ensures ended { self.old.stopped ≡ None → self.old.over ≡ true → (result ≡ Ok None) × (self.new ≡ self.old) × (shelf.new ≡ shelf.old) }
-        ensures again { IfSome self.old.stopped (λ stop. (result ≡ Err (fault_of stop)) × (self.new ≡ self.old) × (shelf.new ≡ shelf.old)) }
-        ensures goes { IfOk result (λ o. IfSome o (λ given. given.ended ≡ true → (all : ℕ) (text : List ℕ) (lines : List (List ℕ)) → AreGiven all text lines self.old (S.left shelf.old) → AreGiven all text (lines ++ given.bytes ∷ []) self.new (S.left shelf.new))) }
-        ensures failed { result ≡ Err LineFault.Fault → (all : ℕ) (text : List ℕ) (lines : List (List ℕ)) → AreGiven all text lines self.old (S.left shelf.old) → IsReadWithLines all text lines (S.left shelf.new) }
-        ensures rose { result ≡ Err LineFault.Fault → Rose (S.faults shelf.old) (S.faults shelf.new) }
-        ensures unended { result ≡ Err LineFault.Fault → position is_line_end self.new.pending ≡ None }
-        ensures few { result ≡ Err LineFault.Fault → length self.new.pending ≤ min self.old.room longest_line }
+        ensures ended { StaysOver None self.old shelf.old result self.new shelf.new }
+        ensures again { StaysStopped self.old shelf.old result self.new shelf.new }
+        ensures goes { GivesOneMore S.left self.old shelf.old result self.new shelf.new }
+        ensures failed { result ≡ Err LineFault.Fault
+            → HasReadGiven S.left self.old shelf.old shelf.new }
+        ensures rose { result ≡ Err LineFault.Fault → CountRose S.faults shelf.old shelf.new }
+        ensures quiet { S.IsQuiet → result ≢ Err LineFault.Fault
+            → CountStays S.faults shelf.old shelf.new }
+        ensures unended { result ≡ Err LineFault.Fault → HasNoLineEnd self.new.pending }
+        ensures few { result ≡ Err LineFault.Fault → length self.new.pending ≤ most_line self.old }
         ensures surely { S.IsSure shelf.old → result ≡ Err LineFault.Fault → ⊥ }
         ensures holds { IsSome (position is_line_end self.old.pending) → shelf.new ≡ shelf.old }
-        ensures near { IsWithinARead (min self.old.room longest_line) self.old.pending (S.left shelf.old) (S.left shelf.new) }
+        ensures near { IsNear S.left self.old shelf.old shelf.new }
+        ensures held { length self.new.pending ≤ most_held }
         ensures shelf { OnlyRead S.IsBegun S.held S.names S.IsSure S.faults shelf.old shelf.new }
     {
         let mut line = Line::new(alloc);
@@ -188,34 +197,40 @@ impl Lines {
     /// the memory of one line. Where no line was read, nothing is said of what `line` then is.
     pub fn read_line<S: Shelf>(&mut self, shelf: &mut S, line: &mut Line) -> Result<bool, LineFault>
         requires { S.IsBegun shelf.old }
-        ensures tells { self.old.stopped ≡ None → self.old.over ≡ false → Tells self.old.room (unread self.old (S.left shelf.old)) (line_read result line.new) self.new.room (unread self.new (S.left shelf.new)) }
-        ensures spends { Spends self.old.room (unread self.old (S.left shelf.old)) self.new.room (unread self.new (S.left shelf.new)) }
+        ensures tells { TellsNext S.left self.old shelf.old (line_read result line.new)
+            self.new shelf.new }
+        ensures spends { SpendsNext S.left self.old shelf.old self.new shelf.new }
         ensures counts { Counts self.old (line_read result line.new) self.new }
-        ensures stops { self.new.stopped ≡ stop_after (line_read result line.new) }
+        ensures stops { self.new.stopped ≡ limit_after (line_read result line.new) }
         ensures over { self.new.over ≡ over_after self.old.over (line_read result line.new) }
-        ensures ended { self.old.stopped ≡ None → self.old.over ≡ true → (result ≡ Ok false) × (self.new ≡ self.old) × (shelf.new ≡ shelf.old) }
-        ensures again { IfSome self.old.stopped (λ stop. (result ≡ Err (fault_of stop)) × (self.new ≡ self.old) × (shelf.new ≡ shelf.old)) }
-        ensures goes { IfOk (line_read result line.new) (λ o. IfSome o (λ given. given.ended ≡ true → (all : ℕ) (text : List ℕ) (lines : List (List ℕ)) → AreGiven all text lines self.old (S.left shelf.old) → AreGiven all text (lines ++ given.bytes ∷ []) self.new (S.left shelf.new))) }
-        ensures failed { result ≡ Err LineFault.Fault → (all : ℕ) (text : List ℕ) (lines : List (List ℕ)) → AreGiven all text lines self.old (S.left shelf.old) → IsReadWithLines all text lines (S.left shelf.new) }
-        ensures rose { result ≡ Err LineFault.Fault → Rose (S.faults shelf.old) (S.faults shelf.new) }
-        ensures unended { result ≡ Err LineFault.Fault → position is_line_end self.new.pending ≡ None }
-        ensures few { result ≡ Err LineFault.Fault → length self.new.pending ≤ min self.old.room longest_line }
+        ensures ended { StaysOver false self.old shelf.old result self.new shelf.new }
+        ensures again { StaysStopped self.old shelf.old result self.new shelf.new }
+        ensures goes { GivesOneMore S.left self.old shelf.old (line_read result line.new)
+            self.new shelf.new }
+        ensures failed { result ≡ Err LineFault.Fault
+            → HasReadGiven S.left self.old shelf.old shelf.new }
+        ensures rose { result ≡ Err LineFault.Fault → CountRose S.faults shelf.old shelf.new }
+        ensures quiet { S.IsQuiet → result ≢ Err LineFault.Fault
+            → CountStays S.faults shelf.old shelf.new }
+        ensures unended { result ≡ Err LineFault.Fault → HasNoLineEnd self.new.pending }
+        ensures few { result ≡ Err LineFault.Fault → length self.new.pending ≤ most_line self.old }
         ensures surely { S.IsSure shelf.old → result ≡ Err LineFault.Fault → ⊥ }
         ensures holds { IsSome (position is_line_end self.old.pending) → shelf.new ≡ shelf.old }
-        ensures near { IsWithinARead (min self.old.room longest_line) self.old.pending (S.left shelf.old) (S.left shelf.new) }
+        ensures near { IsNear S.left self.old shelf.old shelf.new }
+        ensures held { length self.new.pending ≤ most_held }
         ensures shelf { OnlyRead S.IsBegun S.held S.names S.IsSure S.faults shelf.old shelf.new }
     {
-        if let Some(stop) = self.stopped {
-            return Err(stop.fault());
+        if let Some(limit) = self.stopped {
+            return Err(limit.fault());
         }
         if self.over {
             return Ok(false);
         }
         let most = self.room.min(LONGEST_LINE) as usize;
-        match self.pending.front(shelf, most)? {
-            Front::Ended(at) => self.ended_line(at, line),
-            Front::Past => self.stop_past(),
-            Front::Last => self.last_line(line),
+        match self.pending.scan(shelf, most)? {
+            LineScan::Ended(at) => self.ended_line(at, line),
+            LineScan::Past => Err(self.stop_past()),
+            LineScan::Last => self.last_line(line),
         }
     }
 
@@ -224,16 +239,17 @@ impl Lines {
         requires at { position is_line_end self.old.pending ≡ Some at }
         requires stopped { self.old.stopped ≡ None }
         requires goes_on { self.old.over ≡ false }
-        ensures tells { (left : Option (List ℕ)) → Tells self.old.room (unread self.old left) (line_read result line.new) self.new.room (unread self.new left) }
-        ensures spends { (left : Option (List ℕ)) → Spends self.old.room (unread self.old left) self.new.room (unread self.new left) }
+        ensures tells { TellsStill self.old (line_read result line.new) self.new }
+        ensures spends { SpendsStill self.old self.new }
         ensures counts { Counts self.old (line_read result line.new) self.new }
-        ensures stops { self.new.stopped ≡ stop_after (line_read result line.new) }
+        ensures stops { self.new.stopped ≡ limit_after (line_read result line.new) }
         ensures over { self.new.over ≡ over_after false (line_read result line.new) }
+        ensures held { length self.new.pending ≤ most_held }
         ensures fault { result ≡ Err LineFault.Fault → ⊥ }
     {
-        if let Some(stop) = stop_at(at, true, self.room) {
-            self.stopped = Some(stop);
-            return Err(stop.fault());
+        if let Some(limit) = limit_at(at, true, self.room) {
+            self.stopped = Some(limit);
+            return Err(limit.fault());
         }
         self.pending.cut_line(at, &mut line.bytes)?;
         self.room -= at as u64 + 1;
@@ -245,14 +261,15 @@ impl Lines {
 
     /// Gives what was read as the last line, or stops there.
     fn last_line(&mut self, line: &mut Line) -> Result<bool, LineFault>
-        requires unended { position is_line_end self.old.pending ≡ None }
+        requires unended { HasNoLineEnd self.old.pending }
         requires stopped { self.old.stopped ≡ None }
         requires goes_on { self.old.over ≡ false }
-        ensures tells { (left : Option (List ℕ)) → IsAtEnd left → Tells self.old.room (unread self.old left) (line_read result line.new) self.new.room (unread self.new left) }
-        ensures spends { (left : Option (List ℕ)) → Spends self.old.room (unread self.old left) self.new.room (unread self.new left) }
+        ensures tells { TellsAtEnd self.old (line_read result line.new) self.new }
+        ensures spends { SpendsStill self.old self.new }
         ensures counts { Counts self.old (line_read result line.new) self.new }
-        ensures stops { self.new.stopped ≡ stop_after (line_read result line.new) }
+        ensures stops { self.new.stopped ≡ limit_after (line_read result line.new) }
         ensures over { self.new.over ≡ over_after false (line_read result line.new) }
+        ensures held { length self.new.pending ≤ most_held }
         ensures fault { result ≡ Err LineFault.Fault → ⊥ }
     {
         let length = self.pending.len();
@@ -260,9 +277,9 @@ impl Lines {
             self.over = true;
             return Ok(false);
         }
-        if let Some(stop) = stop_at(length, false, self.room) {
-            self.stopped = Some(stop);
-            return Err(stop.fault());
+        if let Some(limit) = limit_at(length, false, self.room) {
+            self.stopped = Some(limit);
+            return Err(limit.fault());
         }
         self.pending.cut_all(&mut line.bytes)?;
         self.room -= length as u64;
@@ -273,45 +290,46 @@ impl Lines {
         Ok(true)
     }
 
-    /// Stops where more was read than a line may have.
-    fn stop_past(&mut self) -> Result<bool, LineFault>
-        requires unended { position is_line_end self.old.pending ≡ None }
-        requires past { min self.old.room longest_line < length self.old.pending }
+    /// Stops where more was read than a line may have, and answers why.
+    fn stop_past(&mut self) -> LineFault
+        requires unended { HasNoLineEnd self.old.pending }
+        requires past { most_line self.old < length self.old.pending }
         requires stopped { self.old.stopped ≡ None }
         requires goes_on { self.old.over ≡ false }
-        ensures tells { (left : Option (List ℕ)) (line : LineOf) → Tells self.old.room (unread self.old left) (line_read result line) self.new.room (unread self.new left) }
-        ensures spends { (left : Option (List ℕ)) → Spends self.old.room (unread self.old left) self.new.room (unread self.new left) }
-        ensures counts { (line : LineOf) → Counts self.old (line_read result line) self.new }
-        ensures stops { (line : LineOf) → self.new.stopped ≡ stop_after (line_read result line) }
-        ensures over { (line : LineOf) → self.new.over ≡ over_after false (line_read result line) }
-        ensures fault { result ≡ Err LineFault.Fault → ⊥ }
+        ensures tells { TellsStill self.old (Err result) self.new }
+        ensures spends { SpendsStill self.old self.new }
+        ensures counts { Counts self.old (Err result) self.new }
+        ensures stops { self.new.stopped ≡ limit_after (Err result) }
+        ensures over { self.new.over ≡ false }
+        ensures held { length self.new.pending ≤ most_held }
+        ensures fault { result ≡ LineFault.Fault → ⊥ }
     {
-        let stop = stop_past(self.room);
-        self.stopped = Some(stop);
-        Err(stop.fault())
+        let limit = limit_past(self.room);
+        self.stopped = Some(limit);
+        limit.fault()
     }
 }
 
-/// Why a text is refused where more bytes were read than a line or the text may have, none of which is a line end.
-fn stop_past(room: u64) -> Stop
-    ensures { shown_stop (Some result) ≡ Some (past_stop room) }
+/// The limit that a text met where more bytes were read than a line or the text may have, none of which is a line end.
+fn limit_past(room: u64) -> Limit
+    ensures { shown_limit (Some result) ≡ Some (past_limit room) }
 {
     if room < LONGEST_LINE {
-        Stop::Large
+        Limit::Large
     } else {
-        Stop::Long
+        Limit::Long
     }
 }
 
-/// Why a line of that length, with or without its end, is refused where there is room for so many bytes.
-fn stop_at(length: usize, ended: bool, room: u64) -> Option<Stop>
-    ensures { shown_stop result ≡ stop_of length (length + cond ended 1 0) room }
+/// The limit that a line of that length meets, with or without its end, where there is room for so many bytes.
+fn limit_at(length: usize, ended: bool, room: u64) -> Option<Limit>
+    ensures { shown_limit result ≡ limit_of length (length + cond ended 1 0) room }
 {
     let length = length as u64;
     if length > LONGEST_LINE && room >= LONGEST_LINE {
-        Some(Stop::Long)
+        Some(Limit::Long)
     } else if length > room || ended && length == room {
-        Some(Stop::Large)
+        Some(Limit::Large)
     } else {
         None
     }

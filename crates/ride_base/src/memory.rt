@@ -1,6 +1,6 @@
 ghost use Rattle.std.specs.Prelude.{◌≡◌, ℕ, ◌+◌, ◌<◌, ◌≤◌, ◌^◌, ◌++◌, ◌∷◌, [], List, Bool, true, false, IsTrue, length, take, drop, min, slice_get, MatchOption, IfSome, IsSome, Option, Some, None, OnOk, OnErr, IfOk, IsOk};
-ghost use Rattle.ride_base.specs.Outside.{Held, Absent, Rose, OnlyRead, Moves};
-ghost use Rattle.ride_base.specs.Stored.{Store, Basin, Reads, Puts, empty_store, empty_basin, held_in, is_listed, can_begin, after_begin, after_refusal, holds_at, name_of, left_of};
+ghost use Rattle.ride_base.specs.Outside.{Absent, Rose, MovesInto};
+ghost use Rattle.ride_base.specs.Stored.{Store, Puts, ReadsText, BeginsText, RefusesText, OnlyReadStore, HasBegun, IsSureStore, empty_store, empty_basin, with_text, with_failing, with_failing_put, held_in, left_in, is_listed, holds_at, name_of};
 
 use crate::items::{Items, NoMemory};
 use crate::outside::{BeginFault, Failed, Shelf, Sink};
@@ -23,7 +23,7 @@ pub struct FailingCall {
 
 /// How far the text that is begun was read.
 #[derive(Clone, Copy, Debug)]
-pub struct Place {
+pub struct Progress {
     pub text: usize,
     pub at: usize,
     pub reads: u64,
@@ -37,7 +37,7 @@ pub struct MemoryShelf {
     failing: Items<FailingCall>,
     names: Items<Items<u8>>,
     most: usize,
-    begun: Option<Place>,
+    begun: Option<Progress>,
     faults: u64,
 }
 
@@ -48,7 +48,14 @@ impl Model for MemoryShelf {
 
     ghost Value = { Store };
 
-    ghost view = { λ a. record { texts = a.texts; failing = a.failing; names = a.names; most = a.most; begun = shown a.texts a.begun; faults = a.faults } };
+    ghost view = { λ a. record {
+      texts = a.texts;
+      failing = a.failing;
+      names = a.names;
+      most = a.most;
+      begun = shown a.texts a.begun;
+      faults = a.faults;
+    } };
 
     ghost invariant = { λ a. (0 < a.most) × ForSome a.begun (λ p. p.text < length a.texts) };
 }
@@ -71,7 +78,7 @@ impl MemoryShelf {
 
     /// Puts a text under a name. It takes the place of an earlier one at the next `begin`, and a text that is begun goes on.
     pub fn put(&mut self, alloc: Global, name: &str, bytes: &[u8]) -> Result<(), NoMemory>
-        ensures ok { OnOk result (self.new ≡ record self.old { texts = self.old.texts ++ (record { name = name.now; bytes = bytes.now }) ∷ [] }) }
+        ensures ok { OnOk result (self.new ≡ with_text self.old name.now bytes.now) }
         ensures err { OnErr result (self.new ≡ self.old) }
     {
         let name = Items::from_slice(alloc, name.as_bytes())?;
@@ -89,7 +96,7 @@ impl MemoryShelf {
 
     /// Lists a call of a name as failing: 0 is its `begin`, and its reads are counted from 1 at each `begin`.
     pub fn fail(&mut self, alloc: Global, name: &str, call: u64) -> Result<(), NoMemory>
-        ensures ok { OnOk result (self.new ≡ record self.old { failing = self.old.failing ++ (record { name = name.now; call = call }) ∷ [] }) }
+        ensures ok { OnOk result (self.new ≡ with_failing self.old name.now call) }
         ensures err { OnErr result (self.new ≡ self.old) }
     {
         let name = Items::from_slice(alloc, name.as_bytes())?;
@@ -98,27 +105,30 @@ impl MemoryShelf {
 }
 
 impl Shelf for MemoryShelf {
-    ghost use Rattle.ride_base.specs.Stored.{left_of};
+    ghost use Rattle.ride_base.specs.Stored.{HasBegun, IsSureStore, left_in};
 
     ghost held = { λ s. held_in s.texts };
 
-    ghost left = { λ s. left_of s.begun };
+    ghost left = { left_in };
 
-    ghost IsBegun = { λ s. IsSome s.begun };
+    ghost IsBegun = { HasBegun };
 
     ghost names = { λ s. s.names };
 
-    ghost IsSure = { λ s. s.failing ≡ [] };
+    ghost IsSure = { IsSureStore };
 
     ghost faults = { λ s. s.faults };
 
+    ghost IsQuiet = { Unit {0} };
+
     fn begin(&mut self, name: &str) -> Result<(), BeginFault>
-        ensures begun { OnOk result (IsTrue (can_begin self.old name.now) × (self.new ≡ after_begin self.old name.now)) }
-        ensures refused { result ≡ Err BeginFault.Failed → (can_begin self.old name.now ≡ false) × (self.new ≡ after_refusal self.old name.now) }
+        ensures begun { OnOk result (BeginsText self.old name.now self.new) }
+        ensures refused { result ≡ Err BeginFault.Failed → RefusesText self.old name.now self.new }
         ensures unmade { result ≡ Err BeginFault.NoMemory → self.new ≡ self.old }
         ensures counted { self.old.faults ≤ self.new.faults }
         ensures rose { result ≡ Err BeginFault.Failed → Rose self.old.faults self.new.faults }
-        ensures surely { self.old.failing ≡ [] → result ≡ Err BeginFault.Failed → held_in self.old.texts name.now ≡ Absent }
+        ensures surely { IsSureStore self.old → result ≡ Err BeginFault.Failed
+            → held_in self.old.texts name.now ≡ Absent }
     {
         let name = name.as_bytes();
         let Ok(copy) = Items::from_slice(self.alloc, name) else {
@@ -130,7 +140,7 @@ impl Shelf for MemoryShelf {
         let fails = lists(self.failing.as_slice(), name, 0);
         match last_of(self.texts.as_slice(), name) {
             Some(text) if !fails => {
-                self.begun = Some(Place {
+                self.begun = Some(Progress {
                     text,
                     at: 0,
                     reads: 0,
@@ -146,14 +156,16 @@ impl Shelf for MemoryShelf {
     }
 
     fn read(&mut self, piece: &mut [u8]) -> Result<usize, Failed>
-        requires begun { IsSome self.old.begun }
+        requires begun { HasBegun self.old }
         requires room { 0 < length piece.old }
-        ensures exact { IfSome self.old.begun (λ begun. Reads self.old self.new begun piece.old piece.new result) }
-        ensures shelf { OnlyRead ⟦<MemoryShelf as Shelf>⟧.IsBegun ⟦<MemoryShelf as Shelf>⟧.held ⟦<MemoryShelf as Shelf>⟧.names ⟦<MemoryShelf as Shelf>⟧.IsSure ⟦<MemoryShelf as Shelf>⟧.faults self.old self.new }
-        ensures ok { IfOk result (λ k. (k ≤ length piece.old) × Moves (left_of self.old.begun) (left_of self.new.begun) piece.new k) }
-        ensures err { OnErr result (left_of self.new.begun ≡ left_of self.old.begun) }
+        ensures exact { ReadsText self.old self.new piece.old piece.new result }
+        ensures shelf { OnlyReadStore self.old self.new }
+        ensures ok { IfOk result
+            (MovesInto (left_in self.old) (left_in self.new) piece.old piece.new) }
+        ensures err { OnErr result (left_in self.new ≡ left_in self.old) }
         ensures rose { OnErr result (Rose self.old.faults self.new.faults) }
-        ensures surely { self.old.failing ≡ [] → IsOk result }
+        ensures quiet { OnOk result (self.new.faults ≡ self.old.faults) }
+        ensures surely { IsSureStore self.old → IsOk result }
     {
         let Some(place) = self.begun else {
             return Ok(0);
@@ -161,12 +173,12 @@ impl Shelf for MemoryShelf {
         let text = &self.texts.as_slice()[place.text];
         let reads = place.reads.saturating_add(1);
         if lists(self.failing.as_slice(), text.name.as_slice(), reads) {
-            self.begun = Some(Place { reads, ..place });
+            self.begun = Some(Progress { reads, ..place });
             self.faults = self.faults.saturating_add(1);
             return Err(Failed);
         }
         let count = pour(text.bytes.as_slice(), place.at, self.most, piece);
-        self.begun = Some(Place {
+        self.begun = Some(Progress {
             at: place.at + count,
             reads,
             ..place
@@ -232,7 +244,13 @@ impl Model for MemorySink {
 
     ghost Value = { Basin };
 
-    ghost view = { λ a. record { taken = a.taken.items; room = a.room; failing = a.failing; puts = a.puts; faults = a.faults } };
+    ghost view = { λ a. record {
+      taken = a.taken.items;
+      room = a.room;
+      failing = a.failing;
+      puts = a.puts;
+      faults = a.faults;
+    } };
 
     ghost invariant = { λ a. a.room ≤ vec_capacity a.taken };
 }
@@ -262,7 +280,7 @@ impl MemorySink {
 
     /// Lists a put as failing, counted from 1.
     pub fn fail(&mut self, alloc: Global, call: u64) -> Result<(), NoMemory>
-        ensures ok { OnOk result (self.new ≡ record self.old { failing = self.old.failing ++ call ∷ [] }) }
+        ensures ok { OnOk result (self.new ≡ with_failing_put self.old call) }
         ensures err { OnErr result (self.new ≡ self.old) }
     {
         self.failing.push(call)

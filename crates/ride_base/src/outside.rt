@@ -1,5 +1,5 @@
-ghost use Rattle.std.specs.Prelude.{◌≡◌, ℕ, List, [], ◌∷◌, ◌++◌, ◌<◌, ◌≤◌, length, take, OnOk, OnErr, IfOk, IsOk, Option, ◌^◌, ◌-◌};
-ghost use Rattle.ride_base.specs.Outside.{Held, Absent, Rose, Moves, Begins, OnlyRead, Takes, TakesPrefix};
+ghost use Rattle.std.specs.Prelude.{◌≡◌, ℕ, List, ◌<◌, ◌≤◌, length, OnOk, OnErr, IfOk, IsOk, Err, Option};
+ghost use Rattle.ride_base.specs.Outside.{Held, Absent, CountRose, CountStays, AddsName, MovesInto, IsAllOf, OnlyRead, Takes, TakesSome, TakesPrefix};
 
 /// A call of the outside world failed.
 #[derive(Clone, Copy, Debug, PartialEq, Eq)]
@@ -34,19 +34,26 @@ pub trait Shelf {
     /// How often it failed, up to the last value of its counter.
     ghost faults: { Self → ℕ };
 
+    /// Whether its count stays at each call that succeeds.
+    ghost IsQuiet: { Type 0 };
+
     /// Begins the text of a name: all of it is left. After `Failed` no text is begun, and after `NoMemory` nothing has changed.
     fn begin(&mut self, name: &str) -> Result<(), BeginFault>
         ensures holds { held self.new ≡ held self.old }
-        ensures ok { OnOk result (IsBegun self.new × Begins (held self.old name.now) (left self.new)) }
-        ensures named { IsOk result → names self.new ≡ names self.old ++ name.now ∷ [] }
-        ensures failed { result ≡ Err BeginFault.Failed → names self.new ≡ names self.old ++ name.now ∷ [] }
+        ensures begun { OnOk result (IsBegun self.new) }
+        ensures all { OnOk result (IsAllOf (held self.old name.now) (left self.new)) }
+        ensures named { IsOk result → AddsName names self.old name.now self.new }
+        ensures failed { result ≡ Err BeginFault.Failed
+            → AddsName names self.old name.now self.new }
         ensures unbegun { result ≡ Err BeginFault.Failed → IsBegun self.new → ⊥ }
         ensures unmade { result ≡ Err BeginFault.NoMemory → self.new ≡ self.old }
         ensures counted { faults self.old ≤ faults self.new }
-        ensures rose { result ≡ Err BeginFault.Failed → Rose (faults self.old) (faults self.new) }
+        ensures rose { result ≡ Err BeginFault.Failed → CountRose faults self.old self.new }
+        ensures quiet { IsQuiet → IsOk result → CountStays faults self.old self.new }
         ensures sure { IsSure self.old → IsSure self.new }
-        ensures surely { IsSure self.old → result ≡ Err BeginFault.Failed → held self.old name.now ≡ Absent }
-        ensures silent { IsSure self.old → IsOk result → faults self.new ≡ faults self.old };
+        ensures surely { IsSure self.old → result ≡ Err BeginFault.Failed
+            → held self.old name.now ≡ Absent }
+        ensures silent { IsSure self.old → IsOk result → CountStays faults self.old self.new };
 
     /// Moves the next bytes of the text into the front of the piece, and answers how many: 0 only at the end. After `Failed` as
     /// much is left as before.
@@ -54,9 +61,10 @@ pub trait Shelf {
         requires begun { IsBegun self.old }
         requires room { 0 < length piece.old }
         ensures shelf { OnlyRead IsBegun held names IsSure faults self.old self.new }
-        ensures ok { IfOk result (λ k. (k ≤ length piece.old) × Moves (left self.old) (left self.new) piece.new k) }
+        ensures ok { IfOk result (MovesInto (left self.old) (left self.new) piece.old piece.new) }
         ensures err { OnErr result (left self.new ≡ left self.old) }
-        ensures rose { OnErr result (Rose (faults self.old) (faults self.new)) }
+        ensures rose { OnErr result (CountRose faults self.old self.new) }
+        ensures quiet { IsQuiet → IsOk result → CountStays faults self.old self.new }
         ensures surely { IsSure self.old → IsOk result };
 }
 
@@ -71,10 +79,10 @@ pub trait Sink {
     /// Takes the first bytes of the piece, and answers how many: 1 or more. After `Failed` it has taken none.
     fn put(&mut self, piece: &[u8]) -> Result<usize, Failed>
         requires { 0 < length piece.now }
-        ensures ok { IfOk result (λ k. (0 < k) × (k ≤ length piece.now) × Takes (taken self.old) (taken self.new) (take k piece.now)) }
+        ensures ok { IfOk result (TakesSome (taken self.old) (taken self.new) piece.now) }
         ensures err { OnErr result (taken self.new ≡ taken self.old) }
         ensures counted { faults self.old ≤ faults self.new }
-        ensures rose { OnErr result (Rose (faults self.old) (faults self.new)) };
+        ensures rose { OnErr result (CountRose faults self.old self.new) };
 }
 
 /// Writes all the bytes. After `Failed` the sink has taken a prefix of them.
@@ -82,7 +90,7 @@ pub fn write_whole<K: Sink>(sink: &mut K, bytes: &[u8]) -> Result<(), Failed>
     ensures ok { OnOk result (Takes (K.taken sink.old) (K.taken sink.new) bytes.now) }
     ensures err { OnErr result (TakesPrefix (K.taken sink.old) (K.taken sink.new) bytes.now) }
     ensures counted { K.faults sink.old ≤ K.faults sink.new }
-    ensures rose { OnErr result (Rose (K.faults sink.old) (K.faults sink.new)) }
+    ensures rose { OnErr result (CountRose K.faults sink.old sink.new) }
 {
     let mut done = 0;
     while done < bytes.len() {

@@ -1,6 +1,7 @@
-ghost use Rattle.std.specs.Prelude.{◌≡◌, ℕ, ◌+◌, ◌<◌, ◌≤◌, List, length, IfOk, Err};
-ghost use Rattle.ride_base.specs.Outside.{Rose, OnlyRead};
-ghost use Rattle.ride_base.specs.Buffers.{CameAtMost, longest_read};
+ghost use Rattle.std.specs.Prelude.{◌≡◌, ◌≢◌, ℕ, ◌+◌, ◌<◌, ◌≤◌, List, length, IfOk, Err};
+ghost use Rattle.ride_base.specs.Outside.{CountRose, CountStays, OnlyRead};
+ghost use Rattle.ride_base.specs.Buffers.{CameAtMost};
+ghost use Rattle.ride_base.specs.Reader.{longest_read};
 ghost use Rattle.ride_base.specs.Reading.{TellsWhole};
 
 use crate::buffer::read_piece;
@@ -15,7 +16,9 @@ pub fn whole<S: Shelf>(alloc: Global, shelf: &mut S, limit: u64) -> Result<Items
     ensures tells { TellsWhole (S.left shelf.old) limit result (S.left shelf.new) }
     ensures near { CameAtMost (limit + longest_read) (S.left shelf.old) (S.left shelf.new) }
     ensures short { IfOk result (λ text. length text ≤ limit) }
-    ensures rose { result ≡ Err LineFault.Fault → Rose (S.faults shelf.old) (S.faults shelf.new) }
+    ensures rose { result ≡ Err LineFault.Fault → CountRose S.faults shelf.old shelf.new }
+    ensures quiet { S.IsQuiet → result ≢ Err LineFault.Fault
+        → CountStays S.faults shelf.old shelf.new }
     ensures surely { S.IsSure shelf.old → result ≡ Err LineFault.Fault → ⊥ }
     ensures unlined { result ≡ Err LineFault.Long → ⊥ }
     ensures shelf { OnlyRead S.IsBegun S.held S.names S.IsSure S.faults shelf.old shelf.new }

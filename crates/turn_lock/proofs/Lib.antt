@@ -1,8 +1,8 @@
-pub mod Entries
-pub mod Places
-pub mod Stages
-pub mod Turning
-pub mod Seats
-pub mod Dealing
-pub mod Joining
-pub mod Ending
+mod AtStage
+mod Close
+mod DealSteps
+mod EntriesOf
+mod IsSeated
+mod JoinSteps
+mod SeatViews
+mod TurnSteps

@@ -8,8 +8,8 @@ use Rattle.atomic_table.specs.Table.{State}
 use Rattle.turn_lock.specs.declared.view.Stage.{Stage}
 use Rattle.turn_lock.specs.declared.view.Stage.TheVariants.{Free, Drawn, Joined, Waiting, Entered, Counted}
 use Rattle.turn_lock.specs.declared.view.View.{View}
-use Rattle.turn_lock.specs.declared.view.Place.{Place}
-use Rattle.turn_lock.specs.declared.view.Place.TheVariants.{Spent, Living}
+use Rattle.turn_lock.specs.declared.view.SeatView.{SeatView}
+use Rattle.turn_lock.specs.declared.view.SeatView.TheVariants.{Spent, Living}
 use Rattle.turn_lock.specs.declared.view.Key.{Key}
 use Rattle.turn_lock.specs.Noted.{entries_of, Begins, InFamily}
 
@@ -47,12 +47,12 @@ module _ {E : Type 0} where
       × ((x : ℕ) → InFamily (number + k) (family - k) x → entries_of x seen ≡ entries_of x ys)
 
 module _ {E O : Type 0} where
-  abbrev pub tickets_of : Place E O → ℕ
+  abbrev pub tickets_of : SeatView E O → ℕ
   tickets_of Spent = 0
   tickets_of (Living v) = tickets_at v.stage
 
   -- how many views have a ticket
-  abbrev pub tickets : List (Place E O) → ℕ
+  abbrev pub tickets : List (SeatView E O) → ℕ
   tickets [] = 0
   tickets (p ∷ ps) = tickets_of p + tickets ps
 
@@ -76,41 +76,41 @@ module _ {E O : Type 0} where
     pub stage : AtStage list t n c m v v.stage
 
   -- two families with no number in common
-  abbrev pub Disjoint : View E O → View E O → Type 0
-  Disjoint v w = (v.number + v.family ≤ w.number) ⊎ (w.number + w.family ≤ v.number)
+  abbrev pub AreDisjoint : View E O → View E O → Type 0
+  AreDisjoint v w = (v.number + v.family ≤ w.number) ⊎ (w.number + w.family ≤ v.number)
 
   -- two desks have no number and no ticket in common
-  abbrev pub Apart : View E O → View E O → Type 0
-  Apart v w = Disjoint v w × ((x : ℕ) → HasTicket x v.stage → HasTicket x w.stage → ⊥)
+  abbrev pub AreApart : View E O → View E O → Type 0
+  AreApart v w = AreDisjoint v w × ((x : ℕ) → HasTicket x v.stage → HasTicket x w.stage → ⊥)
 
   -- no desk has the number yet, and no entry
-  abbrev pub Unused : List (ℕ × E) → List (Place E O) → ℕ → ℕ → Type 0
-  Unused list views m d = (entries_of d list ≡ []) × (length views < m)
+  abbrev pub IsUnused : List (ℕ × E) → List (SeatView E O) → ℕ → ℕ → Type 0
+  IsUnused list views m d = (entries_of d list ≡ []) × (length views < m)
       × ((j : ℕ) (w : View E O) → get_elem? views j ≡ some (Living w) → InFamily w.number w.family d → ⊥)
 
   -- the value is out with some desk
-  abbrev pub IsOut : {X : Type 0} → maybe.Option (Option X) → List (Place E O) → Type 0
+  abbrev pub IsOut : {X : Type 0} → maybe.Option (Option X) → List (SeatView E O) → Type 0
   IsOut home views = (home ≡ none) × ((i : ℕ) × (v : View E O) × (get_elem? views i ≡ some (Living v)) × HasValue v.stage)
 
   module _ {X : Type 0} (noted : X → List (ℕ × E)) (IsFrom : O → X → Type 0) (key : Key O) where
     -- the value is at home, and no desk has it
-    abbrev pub AtHome : List (ℕ × E) → ℕ → ℕ → maybe.Option (Option X) → List (Place E O) → Type 0
-    AtHome list n c home views = (y : X) × (home ≡ some (Some y)) × (noted y ≡ list) × IsFrom key.origin.origin y × (c ≤ n)
+    abbrev pub IsAtHome : List (ℕ × E) → ℕ → ℕ → maybe.Option (Option X) → List (SeatView E O) → Type 0
+    IsAtHome list n c home views = (y : X) × (home ≡ some (Some y)) × (noted y ≡ list) × IsFrom key.origin.origin y × (c ≤ n)
         × ((i : ℕ) (v : View E O) → get_elem? views i ≡ some (Living v) → HasValue v.stage → ⊥)
 
-    pub record Kept (list : List (ℕ × E)) (t n c m : ℕ) (home : maybe.Option (Option X)) (views : List (Place E O)) : Type 0 where
+    pub record KeepsRule (list : List (ℕ × E)) (t n c m : ℕ) (home : maybe.Option (Option X)) (views : List (SeatView E O)) : Type 0 where
       pub few : (length views ≤ m) × (m ≤ key.desks) × (key.desks ≤ 65536)
       pub turns : n ≤ 2 ^ 62
       pub count : c ≡ length list
       pub ticket : n + tickets views ≡ t
       pub numbers : All (λ e. e.0 < m) list
       pub each : (i : ℕ) (v : View E O) → get_elem? views i ≡ some (Living v) → Fits key list t n c m v
-      pub apart : (i j : ℕ) (v w : View E O) → i ≢ j → get_elem? views i ≡ some (Living v) → get_elem? views j ≡ some (Living w) → Apart v w
-      pub drawn : (i : ℕ) (v : View E O) (d : ℕ) → get_elem? views i ≡ some (Living v) → v.stage ≡ Drawn d → Unused list views m d
+      pub apart : (i j : ℕ) (v w : View E O) → i ≢ j → get_elem? views i ≡ some (Living v) → get_elem? views j ≡ some (Living w) → AreApart v w
+      pub drawn : (i : ℕ) (v : View E O) (d : ℕ) → get_elem? views i ≡ some (Living v) → v.stage ≡ Drawn d → IsUnused list views m d
       pub longest : (i : ℕ) × (v : View E O) × (get_elem? views i ≡ some (Living v)) × (v.seen ≡ list)
-      pub value : AtHome list n c home views ⊎ IsOut home views
+      pub value : IsAtHome list n c home views ⊎ IsOut home views
 
-    pub record IsRuled (s : State (Option X) (Place E O)) : Type 0 where
+    pub record IsRuled (s : State (Option X) (SeatView E O)) : Type 0 where
       pub list : List (ℕ × E)
       pub t : ℕ
       pub n : ℕ
@@ -119,7 +119,7 @@ module _ {E O : Type 0} where
       pub home : maybe.Option (Option X)
       pub words : s.words ≡ t ∷ n ∷ c ∷ m ∷ []
       pub homes : s.homes ≡ home ∷ []
-      pub kept : Kept list t n c m home s.views
+      pub kept : KeepsRule list t n c m home s.views
 
   -- the view of the first desk
   abbrev pub opening_view : Key O → View E O

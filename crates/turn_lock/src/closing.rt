@@ -1,7 +1,6 @@
 //! How desks are joined, and a lock is closed.
-ghost use Rattle.std.specs.Prelude.{◌≡◌, ◌≢◌, ℕ, ◌+◌, All, Some, OnOk, IfOk, IfErr};
-ghost use Rattle.turn_lock.specs.Desks.{IsJoinOf};
-ghost use Rattle.turn_lock.specs.Noted.{InFamily};
+ghost use Rattle.std.specs.Prelude.{◌≡◌, ◌+◌, Some, OnOk, IfOk, IfErr};
+ghost use Rattle.turn_lock.specs.Desks.{IsJoinOf, IsUnjoined, IsValueOf};
 
 use crate::desk::Desk;
 use crate::lock::{TurnLock, Unjoined};
@@ -38,9 +37,9 @@ impl<V: Recorded> TurnLock<V> {
     /// Gives the value, where the desk's family has all desks that were made. Else the lock and the desk come back.
     pub fn close(self, desk: Desk<V::Entry, V::Origin>) -> Result<V, Unjoined<V>>
         requires { desk.lock ≡ Some self }
-        ensures ok { IfOk result (λ value. V.IsFrom self.origin value × (V.noted value ≡ desk.seen) × All (λ e. InFamily desk.number desk.family e.0) desk.seen) }
+        ensures ok { IfOk result (IsValueOf V.noted V.IsFrom self desk) }
         ensures whole { OnOk result (desk.family ≡ self.desks) }
-        ensures unjoined { IfErr result (λ u. (u.lock ≡ self) × (u.desk ≡ desk) × (u.made ≡ self.desks) × (u.family ≡ desk.family) × (u.made ≢ u.family)) }
+        ensures unjoined { IfErr result (λ u. IsUnjoined self desk u.lock u.desk u.made u.family) }
     {
         if desk.family != self.desks {
             let (made, family) = (self.desks, desk.family);

@@ -1,14 +1,14 @@
 //! A caller's token.
 ghost use Rattle.std.specs.Prelude.{◌≡◌};
 
-use crate::view::Place;
+use crate::view::SeatView;
 use atomic_table::Badge;
 use std::marker::Model;
 
 /// A caller's token: its number, its family, and what it has seen. It has no lock while a turn has it.
 #[derive(Drop)]
 pub struct Desk<Entry, Origin> {
-    pub(crate) badge: Badge<Place<Entry, Origin>>,
+    pub(crate) badge: Badge<SeatView<Entry, Origin>>,
     pub(crate) number: u64,
     pub(crate) family: u64,
 }

@@ -3,25 +3,30 @@ ghost use Rattle.std.specs.Prelude.{◌≡◌};
 
 use crate::desk::Desk;
 use crate::recorded::Recorded;
-use crate::rule::Board;
+use crate::rule::LockTable;
 use std::marker::Model;
 
 /// A lock round a value, which desks take in turns. The value stands for one growing list of entries, each noted by a desk.
 #[derive(Drop)]
 pub struct TurnLock<V: Recorded> {
-    pub(crate) table: Board<V, V::Entry, V::Origin>,
+    pub(crate) table: LockTable<V, V::Entry, V::Origin>,
     pub(crate) desks: u64,
 }
 
 impl<V: Recorded> Model for TurnLock<V> {
     ghost use Rattle.std.specs.Prelude.{◌≡◌};
-    ghost use Rattle.turn_lock.specs.Desks.{LockState};
+    ghost use Rattle.turn_lock.specs.Desks.{IsSized, LockState};
 
     ghost Value = { LockState V.Origin };
 
-    ghost view = { λ l. record { table = l.table.shared.table_id; desks = l.table.shared.key.desks; origin = l.table.shared.key.origin.origin } };
+    ghost view = { λ l. record {
+      table = l.table.shared.table_id;
+      desks = l.table.shared.key.desks;
+      origin = l.table.shared.key.origin.origin;
+    } };
 
-    ghost invariant = { λ l. (l.desks ≡ l.table.shared.key.desks) × (l.table.shared.table_id.words ≡ 4) × (l.table.shared.table_id.slots ≡ 1) };
+    ghost invariant = { λ l. (l.desks ≡ l.table.shared.key.desks)
+        × IsSized l.table.shared.table_id };
 }
 
 /// There was no memory. The value comes back.

@@ -1,16 +1,14 @@
 //! How a lock and its desks are made.
 ghost use Rattle.std.specs.Prelude.{◌≡◌, ℕ, ◌+◌, ◌<◌, ◌≤◌, [], ◌∷◌, IfOk, IfErr, Some, vec_capacity};
-ghost use Rattle.turn_lock.specs.declared.view.View.{View};
-ghost use Rattle.turn_lock.specs.declared.view.Place.TheVariants.{Living};
 ghost use Rattle.turn_lock.specs.declared.view.Stage.TheVariants.{Free};
-ghost use Rattle.turn_lock.specs.Desks.{fresh, fresh_desks};
-ghost use Rattle.turn_lock.specs.Steps.{IsFirst, IsIn, IsSized, drawn_view};
+ghost use Rattle.turn_lock.specs.Desks.{AreMade, IsSized, fresh_desks};
+ghost use Rattle.turn_lock.specs.Steps.{AreLaid, DrawsNext, HasRoom, IsFirst, IsIn, SplitsNext};
 
 use crate::desk::Desk;
 use crate::lock::{NewFault, TurnLock};
 use crate::plays::{DrawNumber, SplitOff};
 use crate::recorded::Recorded;
-use crate::rule::{Chair, MADE, Top};
+use crate::rule::{Chair, MADE, SharedTable};
 use crate::view::{Chosen, Key};
 use atomic_table::{Badge, Refused, Table};
 use std::alloc::Global;
@@ -28,7 +26,7 @@ impl<V: Recorded> TurnLock<V> {
         requires list { V.noted value ≡ [] }
         requires origin { V.IsFrom origin value }
         requires desks { (0 < desks) × (desks ≤ 65536) }
-        ensures ok { IfOk result (λ made. (made.0.desks ≡ desks) × (made.0.origin ≡ origin) × (made.1.items ≡ fresh_desks made.0 desks)) }
+        ensures ok { IfOk result (λ made. AreMade desks origin made.0 made.1.items) }
         ensures err { IfErr result (λ fault. fault.value ≡ value) }
     {
         let _ = rt;
@@ -51,7 +49,7 @@ fn lay<V: Recorded>(
     requires list { V.noted value ≡ [] }
     requires origin { V.IsFrom origin value }
     requires desks { (0 < desks) × (desks ≤ 65536) }
-    ensures ok { IfOk result (λ made. (made.0.desks ≡ desks) × (made.0.origin ≡ origin) × IsFirst made.0 0 made.1) }
+    ensures ok { IfOk result (λ made. AreLaid desks origin made.0 made.1) }
     ensures err { IfErr result (λ fault. fault.value ≡ value) }
 {
     let desks = desks as u64;
@@ -124,7 +122,7 @@ fn split_off<V: Recorded>(
     chair: &mut Chair<V, V::Entry, V::Origin>,
 ) -> Desk<V::Entry, V::Origin>
     requires { (drawn : ℕ) × (drawn + 1 < lock.now.desks) × IsFirst lock.now drawn chair.old }
-    ensures { (drawn : ℕ) → IsFirst lock.now drawn chair.old → IsFirst lock.now (drawn + 1) chair.new × (result ≡ fresh lock.now (drawn + 1)) }
+    ensures { SplitsNext lock.now chair.old chair.new result }
 {
     let top = &lock.table.shared;
     let number = draw_number::<V>(top, chair);
@@ -138,14 +136,14 @@ fn split_off<V: Recorded>(
 
 // Draws the number of the next desk. It does so for the first desk alone.
 fn draw_number<V: Recorded>(
-    top: &Top<V, V::Entry, V::Origin>,
+    top: &SharedTable<V, V::Entry, V::Origin>,
     chair: &mut Chair<V, V::Entry, V::Origin>,
 ) -> u64
     requires table { IsSized top.now.table_id × (chair.old.table_id ≡ top.now.table_id) }
     requires first { IsIn chair.old.me [] Free }
-    requires room { (v : View V.Entry V.Origin) → chair.old.me.0 ≡ Living v → (v.number ≡ 0) × (v.drawn + 1 < v.desks) }
+    requires room { HasRoom chair.old.me }
     ensures table { chair.new.table_id ≡ chair.old.table_id }
-    ensures drawn { (v : View V.Entry V.Origin) → chair.old.me ≡ (Living v, []) → (chair.new.me ≡ (Living (drawn_view result v), [])) × (result ≡ v.drawn + 1) }
+    ensures drawn { DrawsNext chair.old.me result chair.new.me }
 {
     top.fetch_add::<DrawNumber>(chair, MADE, 1)
 }

@@ -1,6 +1,6 @@
 //! The table under the lock, and its rule.
 use crate::recorded::Recorded;
-use crate::view::{Key, Place};
+use crate::view::{Key, SeatView};
 use atomic_table::{Seat, Shared, Table, TableRule};
 use std::alloc::Global;
 use std::marker::PhantomData;
@@ -25,8 +25,8 @@ pub struct Turns<V> {
     of: PhantomData<V>,
 }
 
-impl<V: Recorded> TableRule<Option<V>, Place<V::Entry, V::Origin>, Key<V::Origin>> for Turns<V> {
-    ghost use Rattle.turn_lock.specs.declared.view.Place.TheVariants.{Living};
+impl<V: Recorded> TableRule<Option<V>, SeatView<V::Entry, V::Origin>, Key<V::Origin>> for Turns<V> {
+    ghost use Rattle.turn_lock.specs.declared.view.SeatView.TheVariants.{Living};
     ghost use Rattle.turn_lock.specs.Rule.{IsRuled, opening_view};
 
     ghost holds = { λ key. IsRuled V.noted V.IsFrom key };
@@ -35,10 +35,10 @@ impl<V: Recorded> TableRule<Option<V>, Place<V::Entry, V::Origin>, Key<V::Origin
 }
 
 /// The table of a lock: its four words, its slot and its views.
-pub type Board<V, E, O> = Table<Option<V>, Place<E, O>, Key<O>, Turns<V>, Global>;
+pub type LockTable<V, E, O> = Table<Option<V>, SeatView<E, O>, Key<O>, Turns<V>, Global>;
 
 /// What all desks share of it.
-pub type Top<V, E, O> = Shared<Option<V>, Place<E, O>, Key<O>, Turns<V>>;
+pub type SharedTable<V, E, O> = Shared<Option<V>, SeatView<E, O>, Key<O>, Turns<V>>;
 
 /// A desk's seat at it during a call.
-pub type Chair<V, E, O> = Seat<Option<V>, Place<E, O>>;
+pub type Chair<V, E, O> = Seat<Option<V>, SeatView<E, O>>;

@@ -1,20 +1,18 @@
 //! The steps of a turn, one at a time.
-ghost use Rattle.std.specs.Prelude.{◌≡◌, ◌⊎◌, ℕ, ◌+◌, ◌^◌, ◌<◌, List, [], ◌∷◌, length, Some, None};
-ghost use Rattle.turn_lock.specs.declared.view.View.{View};
-ghost use Rattle.turn_lock.specs.declared.view.Place.TheVariants.{Living};
-ghost use Rattle.turn_lock.specs.declared.view.Stage.TheVariants.{Free, Waiting, Entered, Counted};
-ghost use Rattle.turn_lock.specs.Noted.{IsLeft};
-ghost use Rattle.turn_lock.specs.Steps.{IsIn, IsSized, Comes, staged, counted_view};
+ghost use Rattle.std.specs.Prelude.{◌≡◌, ℕ, ◌+◌, ◌^◌, ◌<◌, List, []};
+ghost use Rattle.turn_lock.specs.declared.view.Stage.TheVariants.{Free, Waiting};
+ghost use Rattle.turn_lock.specs.Desks.{IsSized};
+ghost use Rattle.turn_lock.specs.Steps.{CanCount, CanServe, ComesAt, HasCounted, IsIn, staged};
 
 use crate::plays::{Count, DrawTicket, LookForTurn, ServeNext};
 use crate::recorded::Recorded;
-use crate::rule::{COUNT, Chair, MOST_TURNS, SERVING, TICKET, Top};
+use crate::rule::{COUNT, Chair, MOST_TURNS, SERVING, SharedTable, TICKET};
 use std::sync::Wait;
 use std::thread;
 
 /// Draws the next ticket.
 pub fn draw_ticket<V: Recorded>(
-    top: &Top<V, V::Entry, V::Origin>,
+    top: &SharedTable<V, V::Entry, V::Origin>,
     chair: &mut Chair<V, V::Entry, V::Origin>,
 ) -> u64
     requires table { IsSized top.now.table_id × (chair.old.table_id ≡ top.now.table_id) }
@@ -28,14 +26,14 @@ pub fn draw_ticket<V: Recorded>(
 /// Waits until the ticket is served. From the ticket `MOST_TURNS` on it waits for ever.
 pub fn wait_for_turn<V: Recorded, R: Wait>(
     rt: &R,
-    top: &Top<V, V::Entry, V::Origin>,
+    top: &SharedTable<V, V::Entry, V::Origin>,
     chair: &mut Chair<V, V::Entry, V::Origin>,
     ticket: u64,
 )
     requires table { IsSized top.now.table_id × (chair.old.table_id ≡ top.now.table_id) }
     requires waits { IsIn chair.old.me [] (Waiting ticket) }
     ensures table { chair.new.table_id ≡ chair.old.table_id }
-    ensures comes { (v : View V.Entry V.Origin) → chair.old.me ≡ (Living v, []) → Comes V.noted V.IsFrom v ticket [] chair.new.me }
+    ensures comes { ComesAt V.noted V.IsFrom chair.old.me ticket chair.new.me }
 {
     for _ in rt.forever() {
         if ticket >= MOST_TURNS {
@@ -54,27 +52,27 @@ pub fn wait_for_turn<V: Recorded, R: Wait>(
 
 /// The count step: the list of the value has so many entries, at most one more than the list that was found.
 pub fn count_step<V: Recorded>(
-    top: &Top<V, V::Entry, V::Origin>,
+    top: &SharedTable<V, V::Entry, V::Origin>,
     chair: &mut Chair<V, V::Entry, V::Origin>,
     entered: u64,
     count: u64,
     value: &Option<V>,
 )
     requires table { IsSized top.now.table_id × (chair.old.table_id ≡ top.now.table_id) }
-    requires entered { (v : View V.Entry V.Origin) × (x : ℕ) × (list : List (ℕ × V.Entry)) × (y : V) × (chair.old.me ≡ (Living v, (0, None) ∷ [])) × (v.stage ≡ Entered x list) × (value.now ≡ Some y) × (entered ≡ length list) × (count ≡ length (V.noted y)) × IsLeft v.number list (V.noted y) }
+    requires entered { CanCount V.noted chair.old.me entered count value.now }
     ensures table { chair.new.table_id ≡ chair.old.table_id }
-    ensures counted { (v : View V.Entry V.Origin) (x : ℕ) (list : List (ℕ × V.Entry)) (y : V) → chair.old.me.0 ≡ Living v → v.stage ≡ Entered x list → value.now ≡ Some y → chair.new.me ≡ (Living (counted_view x (V.noted y) v), chair.old.me.1) }
+    ensures counted { HasCounted V.noted chair.old.me value.now chair.new.me }
 {
     top.compare_exchange_with::<Count<V>>(chair, COUNT, entered, count, value);
 }
 
 /// Gives the value back, and serves the next ticket.
 pub fn serve_next<V: Recorded>(
-    top: &Top<V, V::Entry, V::Origin>,
+    top: &SharedTable<V, V::Entry, V::Origin>,
     chair: &mut Chair<V, V::Entry, V::Origin>,
 )
     requires table { IsSized top.now.table_id × (chair.old.table_id ≡ top.now.table_id) }
-    requires counted { (v : View V.Entry V.Origin) × (x : ℕ) × (y : V) × (chair.old.me ≡ (Living v, (0, Some y) ∷ [])) × (v.stage ≡ Counted x) × (V.noted y ≡ v.seen) × V.IsFrom v.origin y }
+    requires counted { CanServe V.noted V.IsFrom chair.old.me }
     ensures table { chair.new.table_id ≡ chair.old.table_id }
     ensures free { chair.new.me ≡ (staged Free chair.old.me.0, []) }
 {

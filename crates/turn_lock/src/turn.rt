@@ -1,15 +1,15 @@
 //! A turn at the lock.
-ghost use Rattle.std.specs.Prelude.{◌≡◌, ◌≢◌, ℕ, ◌^◌, ◌<◌, true, false, [], ◌∷◌, ◌++◌, length, Some, None, IfSome};
-ghost use Rattle.turn_lock.specs.Noted.{entries_of, InFamily, Follows, IsLeft};
-ghost use Rattle.turn_lock.specs.Desks.{own};
-ghost use Rattle.turn_lock.specs.Views.{IsResting, IsSeated, desk_state, lock_of, seen_of};
+ghost use Rattle.std.specs.Prelude.{◌≡◌, ◌^◌, ◌<◌, true, false, length, Some, None, IfSome};
+ghost use Rattle.turn_lock.specs.Noted.{Follows, IsLeft};
+ghost use Rattle.turn_lock.specs.Desks.{GainsOwn, KeepsOthers, KeepsOwn};
+ghost use Rattle.turn_lock.specs.Views.{IsRestingAt, IsSeated, desk_state, seen_of};
 
 use crate::desk::Desk;
 use crate::lock::TurnLock;
 use crate::recorded::Recorded;
 use crate::rule::Chair;
 use crate::steps::{count_step, draw_ticket, serve_next, wait_for_turn};
-use crate::view::Place;
+use crate::view::SeatView;
 use atomic_table::Badge;
 use std::marker::Model;
 use std::mem;
@@ -41,7 +41,8 @@ impl<V: Recorded> Model for Held<V> {
 
     ghost view = { λ h. turn_state h.number h.family h.chair.table_id h.chair.me.0 h.value };
 
-    ghost invariant = { λ h. IsHeld V.noted V.IsFrom h.number h.family h.entered h.chair.me h.value };
+    ghost invariant = { λ h.
+        IsHeld V.noted V.IsFrom h.number h.family h.entered h.chair.me h.value };
 }
 
 impl<V: Recorded> TurnLock<V> {
@@ -70,11 +71,11 @@ impl<V: Recorded> TurnLock<V> {
     // The seat of the desk with this badge and these numbers.
     pub(crate) fn seat(
         &self,
-        badge: Badge<Place<V::Entry, V::Origin>>,
+        badge: Badge<SeatView<V::Entry, V::Origin>>,
         number: u64,
         family: u64,
     ) -> Chair<V, V::Entry, V::Origin>
-        requires { IsResting number family badge.views × (lock_of badge.table_id badge.views ≡ Some self.now) }
+        requires { IsRestingAt self.now number family badge.table_id badge.views }
         ensures { IsSeated number family self.now (seen_of badge.views) result.table_id result.me }
     {
         badge.into_seat()
@@ -84,12 +85,13 @@ impl<V: Recorded> TurnLock<V> {
     fn hold<R: Wait>(
         &self,
         rt: &R,
-        badge: Badge<Place<V::Entry, V::Origin>>,
+        badge: Badge<SeatView<V::Entry, V::Origin>>,
         number: u64,
         family: u64,
     ) -> Held<V>
-        requires { IsResting number family badge.views × (lock_of badge.table_id badge.views ≡ Some self.now) }
-        ensures turn { (result.desk ≡ desk_state number family badge.table_id badge.views) × (result.taken ≡ false) }
+        requires { IsRestingAt self.now number family badge.table_id badge.views }
+        ensures turn { (result.desk ≡ desk_state number family badge.table_id badge.views)
+            × (result.taken ≡ false) }
         ensures few { length result.list < 2 ^ 62 }
         ensures found { Follows number family (seen_of badge.views) result.list }
     {
@@ -127,9 +129,9 @@ impl<'a, V: Recorded> Turn<'a, V> {
         requires origin { IfSome self.held.desk.lock (λ lock. V.IsFrom lock.origin value) }
         requires list { IsLeft self.held.desk.number self.held.list (V.noted value) }
         ensures desk { self.exit.0.now ≡ record self.entry.held.desk { seen = V.noted value } }
-        ensures same { V.noted value ≡ self.entry.held.list → own self.exit.0.now ≡ own self.entry.held.desk }
-        ensures more { (e : V.Entry) → V.noted value ≡ self.entry.held.list ++ (self.entry.held.desk.number, e) ∷ [] → own self.exit.0.now ≡ own self.entry.held.desk ++ e ∷ [] }
-        ensures others { (n : ℕ) → InFamily self.entry.held.desk.number self.entry.held.desk.family n → n ≢ self.entry.held.desk.number → entries_of n self.exit.0.now.seen ≡ entries_of n self.entry.held.desk.seen }
+        ensures same { KeepsOwn self.entry.held (V.noted value) self.exit.0.now }
+        ensures more { GainsOwn self.entry.held (V.noted value) self.exit.0.now }
+        ensures others { KeepsOthers self.entry.held.desk self.exit.0.now }
     {
         let Turn { desk, lock, held } = self;
         *desk = lock.put(held, value);
@@ -155,9 +157,9 @@ impl<V: Recorded> TurnLock<V> {
         requires origin { V.IsFrom self.now.origin value }
         requires list { IsLeft held.desk.number held.list (V.noted value) }
         ensures desk { result ≡ record held.desk { seen = V.noted value } }
-        ensures same { V.noted value ≡ held.list → own result ≡ own held.desk }
-        ensures more { (e : V.Entry) → V.noted value ≡ held.list ++ (held.desk.number, e) ∷ [] → own result ≡ own held.desk ++ e ∷ [] }
-        ensures others { (n : ℕ) → InFamily held.desk.number held.desk.family n → n ≢ held.desk.number → entries_of n result.seen ≡ entries_of n held.desk.seen }
+        ensures same { KeepsOwn held (V.noted value) result }
+        ensures more { GainsOwn held (V.noted value) result }
+        ensures others { KeepsOthers held.desk result }
     {
         let Held {
             mut chair,

@@ -33,7 +33,7 @@ pub struct View<E, O> {
 }
 
 /// A desk that lives, or one that was joined to another.
-pub enum Place<E, O> {
+pub enum SeatView<E, O> {
     Spent,
     Living(View<E, O>),
 }

@@ -1,8 +1,8 @@
-use Rattle.std.proofs.Common.{◌≡◌, ℕ, zero, suc, ◌+◌, ◌-◌, ◌*◌, ◌/◌, ◌%◌, ◌<◌, ◌≤◌, List, [], ◌∷◌, ◌++◌, length, replicate, set, take, Some, slice_get, refl, sym, ap, ◌∙◌, subst, arith}
+use Rattle.std.proofs.Common.{◌≡◌, ℕ, zero, suc, ◌+◌, ◌-◌, ◌*◌, ◌/◌, ◌%◌, ◌<◌, ◌≤◌, List, [], ◌∷◌, ◌++◌, length, replicate, set, take, Some, slice_get, Result, Ok, Err, OnOk, OnErr, refl, sym, ap, ◌∙◌, subst, arith}
 use Rattle.std.proofs.lemmas.List.{length-append, length-set, length-take-le, length-replicate, replicate-append-replicate, set-append_left, set-append_right, take-replicate}
 use Rattle.std.proofs.lemmas.Nat.{mul-le}
 use Rattle.std.proofs.Math.Seq.{take-set-lt}
-use Rattle.version_array.specs.Levels.{joined, chunks_for, width_for, AreWide, values_of, IsLaid, root_index, middle_index, bottom_index}
+use Rattle.version_array.specs.Levels.{chunk_at, set_below, joined, chunks_for, width_for, AreWide, values_of, IsLaid, root_index, middle_index, bottom_index}
 
 -- the chunk of a place is one of those that are needed
 pub chunk_within : (n i : ℕ) → i < n → i / 128 < chunks_for n
@@ -221,3 +221,34 @@ values_filled {X = X} len x h =
     ∙ joined-replicate row wide x in
     let long : len ≤ row * wide = omega (arith, room_for_all len, mul-le chunks wide row wide (room_for_all chunks) (omega arith)) in
     ap (take len) all ∙ take-replicate len (row * wide) x long
+
+-- a chunk that is there
+chunk_there : {X : Type 0} (chunks : List (List X)) (i : ℕ) → i < length chunks → slice_get chunks i ≡ Some (chunk_at chunks i)
+chunk_there [] i h = absurd (omega arith)
+chunk_there (x ∷ chunks) zero h = refl
+chunk_there (x ∷ chunks) (suc i) h = chunk_there chunks i (omega arith)
+
+module _ {X : Type 0} (len : ℕ) (root : List (List (List X))) (place : ℕ) (laid : IsLaid len root) (within : place < len) where
+  abbrev middle : List (List X)
+  middle = chunk_at root (root_index place)
+
+  abbrev bottom : List X
+  bottom = chunk_at middle (middle_index place)
+
+  -- the way to a place of a list
+  pub way_at : IsWay len root place middle bottom
+  way_at =
+      let chunk_in = chunk_within len place within in
+      let to_middle = chunk_there root (root_index place) (let e = laid.middles in omega (arith, chunk_within (chunks_for len) (place / 128) chunk_in)) in
+      let wide = length_at (width_for (chunks_for len)) root (root_index place) middle laid.bottoms to_middle in
+      record { laid = laid; within = within; to_middle = to_middle; to_bottom = chunk_there middle (middle_index place) (omega (arith, wide, place_within (chunks_for len) (place / 128) chunk_in)) }
+
+  -- what a change leaves, whether or not memory was there for it
+  pub laid_set : {E : Type 0} (result : Result (Unit {0}) E) (new : List (List (List X))) (x : X) → OnOk result (new ≡ set_below root (root_index place) (middle_index place) (bottom_index place) x) → OnErr result (new ≡ root) → IsLaid len new
+  laid_set (Ok u) new x changed kept = subst (IsLaid len) (sym changed) (laid_changed len root place middle bottom way_at x)
+  laid_set (Err e) new x changed kept = subst (IsLaid len) (sym kept) laid
+
+  pub values_set : {E : Type 0} (result : Result (Unit {0}) E) (new : List (List (List X))) (values : List X) (x : X) → values_of len root ≡ values
+      → OnOk result (new ≡ set_below root (root_index place) (middle_index place) (bottom_index place) x) → OnOk result (values_of len new ≡ set values place x)
+  values_set (Ok u) new values x seen changed = ap (values_of len) changed ∙ values_changed len root place middle bottom way_at x ∙ ap (λ (all : List X). set all place x) seen
+  values_set (Err e) new values x seen changed = changed

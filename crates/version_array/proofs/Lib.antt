@@ -1,2 +1,2 @@
-pub mod Chunks
-pub mod Levels
+mod Chunks
+mod Levels

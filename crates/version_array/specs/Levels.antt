@@ -1,4 +1,5 @@
-use Rattle.std.specs.Prelude.{◌≡◌, ℕ, ◌+◌, ◌*◌, ◌/◌, ◌%◌, ◌≤◌, min, List, [], ◌∷◌, length, take, refl}
+use Rattle.std.specs.Prelude.{◌≡◌, ℕ, ◌+◌, ◌*◌, ◌/◌, ◌%◌, ◌≤◌, min, List, [], ◌∷◌, length, take, slice_get, slice_set, refl}
+use Rattle.std.specs.Option.{unwrap_or}
 use Rattle.std.specs.List.{flat_map, AllByRecursion}
 use Rattle.std.specs.Int.{div_ceil}
 
@@ -39,7 +40,22 @@ middle_index place = place / 128 % 128
 abbrev pub bottom_index : ℕ → ℕ
 bottom_index place = place % 128
 
+-- one of some chunks
+abbrev pub chunk_at : {X : Type 0} → List (List X) → ℕ → List X
+chunk_at chunks i = unwrap_or (slice_get chunks i) []
+
+-- chunks with one item of one of them changed
+abbrev pub set_in : {X : Type 0} → List (List X) → (i j : ℕ) → X → List (List X)
+set_in chunks i j x = slice_set chunks i (slice_set (chunk_at chunks i) j x)
+
+-- and with one item of a chunk of one of them
+abbrev pub set_below : {X : Type 0} → List (List (List X)) → (i j k : ℕ) → X → List (List (List X))
+set_below root i j k x = slice_set root i (set_in (chunk_at root i) j k x)
+
 -- worked examples
+
+second_of_first : set_in {X = ℕ} ((1 ∷ 2 ∷ []) ∷ (3 ∷ []) ∷ []) 0 1 7 ≡ (1 ∷ 7 ∷ []) ∷ (3 ∷ []) ∷ []
+second_of_first = refl
 
 the_first_five : values_of {X = ℕ} 5 (((1 ∷ 2 ∷ []) ∷ (3 ∷ 4 ∷ []) ∷ []) ∷ ((5 ∷ 6 ∷ []) ∷ []) ∷ []) ≡ 1 ∷ 2 ∷ 3 ∷ 4 ∷ 5 ∷ []
 the_first_five = refl

@@ -1,4 +1,5 @@
-ghost use Rattle.std.specs.Prelude.{◌≡◌, ◌<◌, ◌++◌, length, replicate, slice_get, slice_set, OnOk, IfOk};
+ghost use Rattle.version_array.specs.Levels.{chunk_at, set_in, set_below};
+ghost use Rattle.std.specs.Prelude.{◌≡◌, ◌<◌, ◌++◌, length, replicate, slice_get, slice_set, OnOk, OnErr, IfOk};
 
 use crate::shared::{NoMemory, Shared};
 use std::alloc::Global;
@@ -66,6 +67,73 @@ impl<T: Shared + Drop> Chunk<T> {
         Ok(Chunk {
             items: Arc::new(alloc, items)?,
         })
+    }
+
+    /// Changes the item at one place: where the chunk lies, if no other version shares it, and else in a chunk of its own, which
+    /// shares the other items. Without memory the chunk stays as it is, and the value is dropped.
+    pub(crate) fn set(&mut self, alloc: Global, at: usize, value: T) -> Result<(), NoMemory>
+        requires { at < length self.old }
+        ensures ok { OnOk result (self.new ≡ slice_set self.old at value) }
+        ensures err { OnErr result (self.new ≡ self.old) }
+    {
+        match Arc::get_mut(&mut self.items) {
+            Some(items) => items[at] = value,
+            None => *self = self.with(alloc, at, value)?,
+        }
+        Ok(())
+    }
+}
+
+impl<T: Shared + Drop> Chunk<Chunk<T>> {
+    /// Changes the item at one place of one of its chunks, in the same way.
+    pub(crate) fn set_in(
+        &mut self,
+        alloc: Global,
+        chunk: usize,
+        at: usize,
+        value: T,
+    ) -> Result<(), NoMemory>
+        requires there { chunk < length self.old }
+        requires within { at < length (chunk_at self.old chunk) }
+        ensures ok { OnOk result (self.new ≡ set_in self.old chunk at value) }
+        ensures err { OnErr result (self.new ≡ self.old) }
+    {
+        match Arc::get_mut(&mut self.items) {
+            Some(items) => items[chunk].set(alloc, at, value),
+            None => {
+                let changed = self.get(chunk).with(alloc, at, value)?;
+                *self = self.with(alloc, chunk, changed)?;
+                Ok(())
+            }
+        }
+    }
+}
+
+impl<T: Shared + Drop> Chunk<Chunk<Chunk<T>>> {
+    /// Changes the item at one place of a chunk of one of its chunks, in the same way.
+    pub(crate) fn set_below(
+        &mut self,
+        alloc: Global,
+        middle: usize,
+        bottom: usize,
+        at: usize,
+        value: T,
+    ) -> Result<(), NoMemory>
+        requires there { middle < length self.old }
+        requires below { bottom < length (chunk_at self.old middle) }
+        requires within { at < length (chunk_at (chunk_at self.old middle) bottom) }
+        ensures ok { OnOk result (self.new ≡ set_below self.old middle bottom at value) }
+        ensures err { OnErr result (self.new ≡ self.old) }
+    {
+        match Arc::get_mut(&mut self.items) {
+            Some(items) => items[middle].set_in(alloc, bottom, at, value),
+            None => {
+                let below = self.get(middle).get(bottom).with(alloc, at, value)?;
+                let changed = self.get(middle).with(alloc, bottom, below)?;
+                *self = self.with(alloc, middle, changed)?;
+                Ok(())
+            }
+        }
     }
 }
 

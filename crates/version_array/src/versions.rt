@@ -1,4 +1,4 @@
-ghost use Rattle.std.specs.Prelude.{◌≡◌, ◌<◌, ◌≤◌, length, replicate, slice_get, slice_set, IfOk};
+ghost use Rattle.std.specs.Prelude.{◌≡◌, ◌<◌, ◌≤◌, length, replicate, slice_get, slice_set, IfOk, OnOk, OnErr};
 
 use crate::chunk::Chunk;
 use crate::shared::{NoMemory, Shared};
@@ -75,6 +75,18 @@ impl<T: Shared + Drop> VersionArray<T> {
         Ok(VersionArray { len, root })
     }
 
+    /// Changes the value at one place of this version; each other version stays as it is. A chunk on the way that no other version
+    /// shares is changed where it lies; from the first shared one on, the chunks are made anew, and their other items are shared one by
+    /// one. Without memory the list stays as it is, and the value is dropped.
+    pub fn set(&mut self, alloc: Global, place: usize, value: T) -> Result<(), NoMemory>
+        requires { place < length self.old }
+        ensures changed { OnOk result (self.new ≡ slice_set self.old place value) }
+        ensures kept { OnErr result (self.new ≡ self.old) }
+    {
+        let bottom = place / WIDTH;
+        self.root.set_below(alloc, bottom / WIDTH, bottom % WIDTH, place % WIDTH, value)
+    }
+
     /// The list with the value at one place changed; this version stays as it is. Three chunks are
     /// made anew, and the other values of the lowest one, 127 at most, are shared one by one.
     /// Without memory the value is dropped.
@@ -83,14 +95,8 @@ impl<T: Shared + Drop> VersionArray<T> {
         ensures changed { IfOk result (λ version. version ≡ slice_set self.now place value) }
         ensures most { IfOk result (λ version. length version ≤ MOST_PLACES) }
     {
-        let middle = self.root.get(place / WIDTH / WIDTH);
-        let bottom = middle.get(place / WIDTH % WIDTH);
-        let bottom = bottom.with(alloc, place % WIDTH, value)?;
-        let middle = middle.with(alloc, place / WIDTH % WIDTH, bottom)?;
-        let root = self.root.with(alloc, place / WIDTH / WIDTH, middle)?;
-        Ok(VersionArray {
-            len: self.len,
-            root,
-        })
+        let mut changed = self.share()?;
+        changed.set(alloc, place, value)?;
+        Ok(changed)
     }
 }

@@ -1,6 +1,6 @@
 use Rattle.std.proofs.Common.{arith, ◌∙◌}
 use Rattle.ride_base.specs.Pieces.{is_line_end}
-use Rattle.ride_base.proofs.Searching.{first_within, finds_behind, finds_none_behind}
+use Rattle.ride_base.proofs.Positions.{first_within, finds_behind, finds_none_behind}
 use Rattle.ride_base.proofs.buffer.find_end.Goals as goal
 
 pub slice_bounds-first_end-count : goal.slice_bounds-first_end-count

@@ -1,6 +1,6 @@
 use Rattle.std.proofs.Common.{◌≡◌, ◌+◌, ◌-◌, ◌≤◌, length, arith, rules, ◌∙◌, length-drop, length-take, replicate, drop, ap}
 use Rattle.std.specs.Prelude.{is_ok, vec_len}
-use Rattle.ride_base.proofs.Filling.{front_kept, filled}
+use Rattle.ride_base.proofs.ReadPiece.{front_kept, filled}
 use Rattle.ride_base.proofs.buffer.read_piece.Goals as goal
 
 pub returns-in-Ok-clause-ok : goal.returns-in-Ok-clause-ok

@@ -1,5 +1,5 @@
 use Rattle.std.proofs.Common.{arith, ◌∙◌}
-use Rattle.ride_base.proofs.Spelling.{passes}
+use Rattle.ride_base.proofs.NumberOf.{passes}
 use Rattle.ride_base.proofs.digits.number.Goals as goal
 
 pub returns-in_err-checked_mul : goal.returns-in_err-checked_mul

@@ -1,6 +1,6 @@
 use Rattle.std.proofs.Common.{rules, sym, ◌∙◌, arith, ◌-◌, ◌^◌}
 use Rattle.std.proofs.lemmas.List.{drop_all}
-use Rattle.ride_base.proofs.Capping.{one_more, capped_is, digits_more}
+use Rattle.ride_base.proofs.CappedNumber.{one_more, capped_is, digits_more}
 use Rattle.ride_base.proofs.fields.capped_number.Goals as goal
 
 pub loop-byte-preserved : goal.loop-byte-preserved

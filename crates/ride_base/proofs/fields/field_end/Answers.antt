@@ -1,4 +1,4 @@
-use Rattle.ride_base.proofs.Fielding.{ends_at_length}
+use Rattle.ride_base.proofs.FieldsOf.{ends_at_length}
 use Rattle.ride_base.proofs.fields.field_end.Goals as goal
 
 pub returns-in-None-clause-place : goal.returns-in-None-clause-place

@@ -1,5 +1,5 @@
 use Rattle.std.proofs.Common.{sym}
-use Rattle.ride_base.proofs.Fielding.{cut_field, some_bytes, no_fields}
+use Rattle.ride_base.proofs.FieldsOf.{cut_field, some_bytes, no_fields}
 use Rattle.ride_base.proofs.fields.next_field.Goals as goal
 
 pub returns-in_err-start-clause-field : goal.returns-in_err-start-clause-field

@@ -1,7 +1,7 @@
 use Rattle.std.proofs.Common.{◌≡◌, ◌∙◌, sym, ap, List, ℕ}
 use Rattle.std.specs.Str.{bytes_eq}
 use Rattle.ride_base.specs.Stored.{name_of}
-use Rattle.ride_base.proofs.Storing.{last_here, last_there, text_here, same_bytes}
+use Rattle.ride_base.proofs.Stored.{last_here, last_there, text_here, same_bytes}
 use Rattle.ride_base.proofs.memory.last_of.Goals.{then-eq, else-eq}
 use Rattle.ride_base.proofs.memory.last_of.Goals as goal
 

@@ -1,6 +1,6 @@
 use Rattle.std.proofs.Common.{◌≡◌, ◌+◌, ◌-◌, ◌≤◌, length}
-use Rattle.ride_base.specs.Buffers.{with_front}
-use Rattle.ride_base.specs.Outside.{OnlyRead}
+use Rattle.ride_base.specs.Buffers.{with_read}
+use Rattle.ride_base.specs.Outside.{CountStays, OnlyRead}
 use Rattle.ride_base.proofs.texts.whole.Given as goal
 
 abbrev pub invariant-loop-text : goal.invariant-loop-text
@@ -8,7 +8,8 @@ invariant-loop-text g l =
     let S = g.S.Shelf in
     record {
       shelf : OnlyRead S.IsBegun S.held S.names S.IsSure S.faults l.fn.shelf l.shelf;
-      text : with_front l.text.items (S.left l.shelf) ≡ S.left l.fn.shelf;
+      quiet : S.IsQuiet → CountStays S.faults l.fn.shelf l.shelf;
+      text : with_read l.text.items (S.left l.shelf) ≡ S.left l.fn.shelf;
       short : length l.text.items ≤ l.limit;
     }
 

@@ -1,6 +1,6 @@
 use Rattle.std.proofs.Common.{◌≡◌, ℕ, ◌+◌, List, [], ◌∷◌, ◌++◌, length, set, sym, ap, ◌∙◌, arith, add-one, length-append}
 use Rattle.turn_lock.specs.Desks.{DeskState, LockState, fresh, fresh_desks}
-use Rattle.turn_lock.proofs.Seats.{set_more}
+use Rattle.turn_lock.proofs.IsSeated.{set_more}
 use Rattle.turn_lock.proofs.making.deal.Goals as goal
 
 -- one desk more in the row

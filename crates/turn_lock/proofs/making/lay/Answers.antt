@@ -1,5 +1,5 @@
 use Rattle.std.proofs.Common.{sym, subst}
-use Rattle.turn_lock.proofs.Dealing.{opens}
+use Rattle.turn_lock.proofs.DealSteps.{opens}
 use Rattle.turn_lock.proofs.making.lay.Goals as goal
 
 pub new-requires : goal.new-requires

@@ -1,12 +1,12 @@
 use Rattle.std.proofs.Common.{◌≡◌, ℕ, ◌+◌, ◌<◌, refl, sym, ap, ◌∙◌, subst, arith}
 use Rattle.atomic_table.specs.Table.{Splits}
 use Rattle.turn_lock.specs.declared.view.View.{View}
-use Rattle.turn_lock.specs.declared.view.Place.{Place}
+use Rattle.turn_lock.specs.declared.view.SeatView.{SeatView}
 use Rattle.turn_lock.specs.Rule.{IsRuled}
 use Rattle.turn_lock.specs.Steps.{first_view, drawn_view, cut_left, cut_right}
-use Rattle.turn_lock.proofs.Places.{living_one}
-use Rattle.turn_lock.proofs.Dealing.{splits}
-use Rattle.turn_lock.proofs.Seats.{drawn_first, split_first, split_next}
+use Rattle.turn_lock.proofs.SeatViews.{living_one}
+use Rattle.turn_lock.proofs.DealSteps.{splits}
+use Rattle.turn_lock.proofs.IsSeated.{drawn_first, split_first, split_next}
 use Rattle.turn_lock.proofs.making.split_off.Goals as goal
 
 pub draw_number-number-requires-clause-room : goal.draw_number-number-requires-clause-room
@@ -19,7 +19,7 @@ split_seat-next-requires g c = let r = c.requires in let d : ℕ = r.0 in
     let e = drawn_first c.args.lock.now d c.draw_number-number.result c.args.chair.now.me c.draw_number-number.new.chair.me r.2.1 c.draw_number-number.ensures.drawn in let here = ap (λ l. l.table) c.lock.view_is in (
       c.draw_number-number.ensures.table ∙ (r.2.0 ∙ sym here),
       omega (arith, c.lock.invariant.1),
-      subst (λ (p : Place g.row.V-Entry.Denot g.row.V-Origin.Denot). Splits (IsRuled g.V.Recorded.noted g.V.Recorded.IsFrom c.lock.inside.table.shared.key) c.draw_number-number.new.chair.id p (cut_left p) (cut_right p))
+      subst (λ (p : SeatView g.row.V-Entry.Denot g.row.V-Origin.Denot). Splits (IsRuled g.V.Recorded.noted g.V.Recorded.IsFrom c.lock.inside.table.shared.key) c.draw_number-number.new.chair.id p (cut_left p) (cut_right p))
           (sym (ap (λ m. m.0) e.0)) (splits g.V.Recorded.noted g.V.Recorded.IsFrom c.lock.inside.table.shared.key c.draw_number-number.new.chair.id (drawn_view (d + 1) (first_view c.args.lock.now d)) (d + 1) refl),
     )
 

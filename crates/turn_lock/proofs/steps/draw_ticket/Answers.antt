@@ -1,16 +1,16 @@
 use Rattle.std.proofs.Common.{ℕ, ◌+◌, ◌%◌, ◌^◌, Option, sym, subst, arith}
 use mathlib.Core.Option.{none}
 use Rattle.atomic_table.specs.Table.{Me, Allows, step}
-use Rattle.turn_lock.specs.declared.view.Place.{Place}
+use Rattle.turn_lock.specs.declared.view.SeatView.{SeatView}
 use Rattle.turn_lock.specs.Rule.{IsRuled}
 use Rattle.turn_lock.specs.Steps.{drew_ticket}
-use Rattle.turn_lock.proofs.Turning.{draws}
+use Rattle.turn_lock.proofs.TurnSteps.{draws}
 use Rattle.turn_lock.proofs.steps.draw_ticket.Goals as goal
 
 pub fetch_add-requires : goal.fetch_add-requires
 fetch_add-requires g c = let r = c.requires.free in let n : ℕ = c.args.top.now.table_id.slots in (
   c.requires.table.1,
   omega (arith, c.requires.table.0.0),
-  subst (λ (me : Me (Option g.row.V.Denot) (Place g.row.V-Entry.Denot g.row.V-Origin.Denot)). Allows (IsRuled g.V.Recorded.noted g.V.Recorded.IsFrom c.args.top.now.key) n c.args.chair.now.id me 0 (λ k. (k + 1) % 2 ^ 64) (drew_ticket (step n 0 1 0 none) me))
+  subst (λ (me : Me (Option g.row.V.Denot) (SeatView g.row.V-Entry.Denot g.row.V-Origin.Denot)). Allows (IsRuled g.V.Recorded.noted g.V.Recorded.IsFrom c.args.top.now.key) n c.args.chair.now.id me 0 (λ k. (k + 1) % 2 ^ 64) (drew_ticket (step n 0 1 0 none) me))
       (sym r.1) (draws g.V.Recorded.noted g.V.Recorded.IsFrom c.args.top.now.key n c.args.chair.now.id r.0 r.2),
 )

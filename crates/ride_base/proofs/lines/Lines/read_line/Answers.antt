@@ -3,10 +3,7 @@ use Rattle.ride_base.proofs.Prefixes.{line_goes, failed_at}
 use Rattle.ride_base.proofs.lines.Lines.read_line.Goals as goal
 
 pub returns-in_err-at-clause-failed : goal.returns-in_err-at-clause-failed
-returns-in_err-at-clause-failed g c = rw (← c.self.view_is) (λ e. failed_at c.self.inside.pending c.front.new.self c.self.inside.room _ _ c.in_err-at.ensures.unread c.in_err-at.ensures.unended (omega (arith, c.in_err-at.ensures.few, c.min-most.ensures)))
+returns-in_err-at-clause-failed g c = rw (← c.self.view_is) (λ e. failed_at c.self.inside.pending c.scan.new.self c.self.inside.room _ _ c.in_err-at.ensures.unread c.in_err-at.ensures.unended (omega (arith, c.in_err-at.ensures.few, c.min-most.ensures)))
 
 pub returns-in-Ended-clause-goes : goal.returns-in-Ended-clause-goes
-returns-in-Ended-clause-goes g c = rw (← c.self.view_is) (line_goes c.self.inside.pending c.front.new.self _ _ _ _ _ c.ended_line.result c.ended_line.new.line c.in_ok-at.ensures.unread (c.ended_line.ensures.tells _) (c.ended_line.ensures.spends _))
-
-pub returns-in-Past-clause-goes : goal.returns-in-Past-clause-goes
-returns-in-Past-clause-goes g c = rw (← c.self.view_is) (line_goes c.self.inside.pending c.front.new.self _ _ _ _ _ c.stop_past.result c.args.line.now c.in_ok-at.ensures.unread (c.stop_past.ensures.tells _ _) (c.stop_past.ensures.spends _))
+returns-in-Ended-clause-goes g c = rw (← c.self.view_is) (line_goes c.self.inside.pending c.scan.new.self _ _ _ _ _ c.ended_line.result c.ended_line.new.line c.in_ok-at.ensures.unread (c.ended_line.ensures.tells _) (c.ended_line.ensures.spends _))

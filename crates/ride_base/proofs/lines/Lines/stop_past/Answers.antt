@@ -1,5 +1,5 @@
-use Rattle.ride_base.proofs.Cutting.{stopped_past}
+use Rattle.ride_base.proofs.Tells.{stopped_past}
 use Rattle.ride_base.proofs.lines.Lines.stop_past.Goals as goal
 
 pub returns-clause-tells : goal.returns-clause-tells
-returns-clause-tells c = rw (← c.self.view_is) (λ left line. stopped_past c.self.inside.pending c.self.inside.room _ left c.stop_past-stop.result c.fault.result (rw (← c.self.view_is) at c.requires.unended) (rw (← c.self.view_is) at c.requires.past) c.stop_past-stop.ensures c.fault.ensures)
+returns-clause-tells c = rw (← c.self.view_is) (λ left. stopped_past c.self.inside.pending c.self.inside.room _ left c.limit_past-limit.result c.fault.result (rw (← c.self.view_is) at c.requires.unended) (rw (← c.self.view_is) at c.requires.past) c.limit_past-limit.ensures c.fault.ensures)

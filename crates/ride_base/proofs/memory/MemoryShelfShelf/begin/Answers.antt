@@ -1,7 +1,7 @@
 use Rattle.std.proofs.Common.{◌≡◌, ◌<◌, ◌++◌, ◌∷◌, [], false, length, rules, refl}
 use Rattle.std.specs.Prelude.{slice_get}
 use Rattle.ride_base.specs.Stored.{text_of, name_of, held_in, is_listed}
-use Rattle.ride_base.proofs.Storing.{can_start, shows, some_within}
+use Rattle.ride_base.proofs.Stored.{can_start, shows, some_within}
 use Rattle.ride_base.proofs.memory.MemoryShelfShelf.begin.Goals as goal
 
 pub returns-in-Some-clause-begun : goal.returns-in-Some-clause-begun

@@ -3,7 +3,7 @@ use Rattle.std.specs.Prelude.{◌==◌}
 use Rattle.std.specs.List.{list_any}
 use Rattle.std.proofs.lemmas.Bool.{eq-eqb}
 use Rattle.ride_base.specs.Outside.{raised}
-use Rattle.ride_base.proofs.Storing.{put_failed, put_took, either, neither, not_zero}
+use Rattle.ride_base.proofs.Stored.{put_failed, put_took, either, neither, not_zero}
 use Rattle.ride_base.proofs.memory.MemorySinkSink.put.Goals.{then-contains-via-then-contains, then-contains-via-else-contains+then-left-eq0}
 use Rattle.ride_base.proofs.memory.MemorySinkSink.put.Goals as goal
 

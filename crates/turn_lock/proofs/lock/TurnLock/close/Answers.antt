@@ -3,7 +3,7 @@ use Rattle.std.specs.Prelude.{All}
 use Rattle.std.specs.Mem.Slots.{slots_items}
 use Rattle.turn_lock.specs.Noted.{InFamily}
 use Rattle.turn_lock.specs.Views.{seen_of}
-use Rattle.turn_lock.proofs.Ending.{ended}
+use Rattle.turn_lock.proofs.Close.{ended}
 use Rattle.turn_lock.proofs.lock.TurnLock.close.Goals as goal
 
 pub unwrap-requires : goal.unwrap-requires

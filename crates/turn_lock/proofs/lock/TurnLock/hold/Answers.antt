@@ -1,11 +1,11 @@
 use Rattle.std.proofs.Common.{ℕ, List, [], ◌∷◌, refl, sym, ap, ◌∙◌, subst, arith, length, ◌<◌, ◌^◌, Some}
 use Rattle.atomic_table.specs.Table.{rest}
 use Rattle.turn_lock.specs.declared.view.Stage.TheVariants.{Waiting}
-use Rattle.turn_lock.specs.declared.view.Place.{Place}
+use Rattle.turn_lock.specs.declared.view.SeatView.{SeatView}
 use Rattle.turn_lock.specs.Views.{seen_of, IsHeld}
 use Rattle.turn_lock.specs.Noted.{Follows}
 use Rattle.turn_lock.specs.Steps.{staged}
-use Rattle.turn_lock.proofs.Seats.{came, some_value, takes_turn}
+use Rattle.turn_lock.proofs.IsSeated.{came, some_value, takes_turn}
 use Rattle.turn_lock.proofs.lock.TurnLock.hold.Goals as goal
 
 pub draw_ticket-ticket-requires-clause-free : goal.draw_ticket-ticket-requires-clause-free
@@ -13,7 +13,7 @@ draw_ticket-ticket-requires-clause-free g c = let h = c.seat-chair.ensures in (h
 
 pub wait_for_turn-requires-clause-waits : goal.wait_for_turn-requires-clause-waits
 wait_for_turn-requires-clause-waits g c = let h = c.seat-chair.ensures in
-    (record h.view { stage = Waiting c.draw_ticket-ticket.result }, c.draw_ticket-ticket.ensures.waits ∙ ap (λ (p : Place g.row.V-Entry.Denot g.row.V-Origin.Denot). (staged (Waiting c.draw_ticket-ticket.result) p, [])) (ap (λ m. m.0) h.me_is), refl)
+    (record h.view { stage = Waiting c.draw_ticket-ticket.result }, c.draw_ticket-ticket.ensures.waits ∙ ap (λ (p : SeatView g.row.V-Entry.Denot g.row.V-Origin.Denot). (staged (Waiting c.draw_ticket-ticket.result) p, [])) (ap (λ m. m.0) h.me_is), refl)
 
 pub exchange-requires : goal.exchange-requires
 exchange-requires g c = let h = c.seat-chair.ensures in

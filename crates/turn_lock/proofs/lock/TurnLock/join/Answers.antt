@@ -1,14 +1,14 @@
 use Rattle.std.proofs.Common.{◌≡◌, ℕ, ◌+◌, refl, sym, ap, ◌∙◌, subst, arith, Option, Some}
 use mathlib.Core.Option.{none}
 use Rattle.atomic_table.specs.Table.{Me, Allows, Joins, step}
-use Rattle.turn_lock.specs.declared.view.Place.{Place}
-use Rattle.turn_lock.specs.declared.view.Place.TheVariants.{Spent}
+use Rattle.turn_lock.specs.declared.view.SeatView.{SeatView}
+use Rattle.turn_lock.specs.declared.view.SeatView.TheVariants.{Spent}
 use Rattle.turn_lock.specs.Rule.{IsRuled}
 use Rattle.turn_lock.specs.Desks.{DeskState, IsJoinOf}
 use Rattle.turn_lock.specs.Steps.{looked, joined, joined_view}
 use Rattle.turn_lock.specs.Views.{seen_of, desk_state}
-use Rattle.turn_lock.proofs.Joining.{joins, looks_at_join}
-use Rattle.turn_lock.proofs.Seats.{folds, folded}
+use Rattle.turn_lock.proofs.JoinSteps.{joins, looks_at_join}
+use Rattle.turn_lock.proofs.IsSeated.{folds, folded}
 use Rattle.turn_lock.proofs.lock.TurnLock.join.Goals as goal
 
 pub join_seat-requires : goal.join_seat-requires
@@ -18,7 +18,7 @@ join_seat-requires g c = let h = c.seat-chair.ensures in let h' = c.seat-theirs.
       h'.table ∙ sym here,
       ap (λ m. m.1) h'.me_is,
       omega (arith, c.self.invariant.1),
-      subst (λ (z : Place g.row.V-Entry.Denot g.row.V-Origin.Denot × Place g.row.V-Entry.Denot g.row.V-Origin.Denot).
+      subst (λ (z : SeatView g.row.V-Entry.Denot g.row.V-Origin.Denot × SeatView g.row.V-Entry.Denot g.row.V-Origin.Denot).
           Joins (IsRuled g.V.Recorded.noted g.V.Recorded.IsFrom c.self.inside.table.shared.key) c.seat-chair.result.id z.0 c.seat-theirs.result.id z.1 (joined z.0 z.1) Spent)
           (λ i. ((sym h.me_is i).0, (sym h'.me_is i).0))
           (joins g.V.Recorded.noted g.V.Recorded.IsFrom c.self.inside.table.shared.key c.seat-chair.result.id h.view c.seat-theirs.result.id h'.view h.stage h'.stage (h'.number ∙ (next ∙ (λ i. sym h.number i + sym h.family i)))),
@@ -29,7 +29,7 @@ load-desk-inside-requires g c = let h = c.seat-chair.ensures in let h' = c.seat-
     let e = folds c.desk.inside.number c.desk.inside.family c.other.inside.number c.other.inside.family c.args.self.now (seen_of c.replace-badge.result.views) (seen_of c.other.inside.badge.views) c.seat-chair.result.table_id c.seat-theirs.result.table_id c.seat-chair.result.me c.seat-theirs.result.me c.join_seat.new.seat.me h h' c.join_seat.ensures.2 in (
       c.join_seat.ensures.0 ∙ (h.table ∙ sym here),
       omega (arith, c.self.invariant.1),
-      subst (λ (me : Me (Option g.row.V.Denot) (Place g.row.V-Entry.Denot g.row.V-Origin.Denot)). Allows (IsRuled g.V.Recorded.noted g.V.Recorded.IsFrom c.self.inside.table.shared.key) n c.join_seat.new.seat.id me 0 (λ k. k) (looked (step n 0 0 0 none) me))
+      subst (λ (me : Me (Option g.row.V.Denot) (SeatView g.row.V-Entry.Denot g.row.V-Origin.Denot)). Allows (IsRuled g.V.Recorded.noted g.V.Recorded.IsFrom c.self.inside.table.shared.key) n c.join_seat.new.seat.id me 0 (λ k. k) (looked (step n 0 0 0 none) me))
           (sym e) (looks_at_join g.V.Recorded.noted g.V.Recorded.IsFrom c.self.inside.table.shared.key n c.join_seat.new.seat.id (joined_view h.view h'.view) h.view.seen h.view.family h'.view.seen refl),
     )
 

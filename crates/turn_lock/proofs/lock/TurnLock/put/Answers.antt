@@ -4,7 +4,7 @@ use Rattle.turn_lock.specs.declared.view.Stage.TheVariants.{Free}
 use Rattle.turn_lock.specs.Noted.{entries_of}
 use Rattle.turn_lock.specs.Desks.{own}
 use Rattle.turn_lock.specs.Steps.{staged, counted_view}
-use Rattle.turn_lock.proofs.Seats.{turn_left, turn_lock, turn_adds, put_back, slot_there, left_desk, none_taken}
+use Rattle.turn_lock.proofs.IsSeated.{turn_left, turn_lock, turn_adds, put_back, slot_there, left_desk, none_taken}
 use Rattle.turn_lock.proofs.lock.TurnLock.put.Goals as goal
 
 pub count_step-requires-clause-entered : goal.count_step-requires-clause-entered

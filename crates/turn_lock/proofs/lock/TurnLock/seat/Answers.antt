@@ -1,4 +1,4 @@
-use Rattle.turn_lock.proofs.Seats.{seated}
+use Rattle.turn_lock.proofs.IsSeated.{seated}
 use Rattle.turn_lock.proofs.lock.TurnLock.seat.Goals as goal
 
 pub returns : goal.returns

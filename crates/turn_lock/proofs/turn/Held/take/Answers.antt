@@ -1,6 +1,6 @@
 use Rattle.std.proofs.Common.{sym, ap, ◌∙◌, subst, Option}
 use Rattle.turn_lock.specs.Views.{is_taken, IsHeld}
-use Rattle.turn_lock.proofs.Seats.{some_left, stands_for}
+use Rattle.turn_lock.proofs.IsSeated.{some_left, stands_for}
 use Rattle.turn_lock.proofs.turn.Held.take.Goals as goal
 
 pub unwrap-requires : goal.unwrap-requires

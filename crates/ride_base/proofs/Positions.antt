@@ -115,10 +115,10 @@ unended p h = λ k d lt. fails_before_first is_line_end p k d (let e = none_foun
 
 -- what was searched stays so where bytes are read behind it, or none are
 pub searched_more : {E : Type 0} (answer : Result ℕ E) (old new : List ℕ) (left left' : Option (List ℕ)) (n : ℕ) → n ≤ position_or_len is_line_end old
-    → IfOk answer (λ k. Gains old new left left' k) → OnErr answer ((new ≡ old) × (left' ≡ left)) → n ≤ position_or_len is_line_end new
+    → IfOk answer (λ k. Gains old new left left' k) → OnErr answer (new ≡ old) → n ≤ position_or_len is_line_end new
 searched_more (Ok k) old new left left' n h ok err =
     let e : position_or_len is_line_end new ≡ position_or_len is_line_end (old ++ take k ok.piece) = ap (position_or_len is_line_end) ok.added in
     omega (arith, first_append is_line_end old (take k ok.piece), e)
 searched_more (Err e) old new left left' n h ok err =
-    let e : position_or_len is_line_end new ≡ position_or_len is_line_end old = ap (position_or_len is_line_end) err.0 in
+    let e : position_or_len is_line_end new ≡ position_or_len is_line_end old = ap (position_or_len is_line_end) err in
     omega arith

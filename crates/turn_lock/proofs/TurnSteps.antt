@@ -12,31 +12,31 @@ use Rattle.atomic_table.proofs.Lists.{set_here, set_again}
 use Rattle.turn_lock.specs.declared.view.Stage.{Stage}
 use Rattle.turn_lock.specs.declared.view.Stage.TheVariants.{Free, Waiting, Entered, Counted}
 use Rattle.turn_lock.specs.declared.view.View.{View}
-use Rattle.turn_lock.specs.declared.view.Place.{Place}
-use Rattle.turn_lock.specs.declared.view.Place.TheVariants.{Living}
+use Rattle.turn_lock.specs.declared.view.SeatView.{SeatView}
+use Rattle.turn_lock.specs.declared.view.SeatView.TheVariants.{Living}
 use Rattle.turn_lock.specs.declared.view.Key.{Key}
 use Rattle.turn_lock.specs.Noted.{entries_of, Begins, InFamily, IsLeft}
-use Rattle.turn_lock.specs.Rule.{HasTicket, HasValue, tickets_at, AtStage, Disjoint, AtHome, IsOut, Kept, IsRuled}
+use Rattle.turn_lock.specs.Rule.{HasTicket, HasValue, tickets_at, AtStage, AreDisjoint, IsAtHome, IsOut, KeepsRule, IsRuled}
 use Rattle.turn_lock.specs.Steps.{drew_ticket, looked_for_turn, counted, served, Comes, counted_view, free_view}
-use Rattle.turn_lock.proofs.Entries.{entries_of-more, begins_itself, begins_trans}
+use Rattle.turn_lock.proofs.EntriesOf.{entries_of-more, begins_itself, begins_trans}
 use Rattle.std.proofs.lemmas.List.{append-nil}
 use Rattle.std.proofs.lemmas.List.Elements.{All-append}
-use Rattle.turn_lock.proofs.Places.{moves, at_below, living_one, each_set, tickets_le}
-use Rattle.turn_lock.proofs.Stages.{ticket_within, value_ticket, one_more_ticket, one_more_turn, other_list, value_stays}
+use Rattle.turn_lock.proofs.SeatViews.{moves, at_below, living_one, each_set, tickets_le}
+use Rattle.turn_lock.proofs.AtStage.{ticket_within, value_ticket, one_more_ticket, one_more_turn, other_list, value_stays}
 
 module _ {E O X : Type 0} (noted : X → List (ℕ × E)) (IsFrom : O → X → Type 0) (key : Key O) where
   abbrev St : Type 0
-  St = State (Option X) (Place E O)
+  St = State (Option X) (SeatView E O)
 
   abbrev M : Type 0
-  M = Me (Option X) (Place E O)
+  M = Me (Option X) (SeatView E O)
 
   abbrev Rule : St → Type 0
   Rule = IsRuled noted IsFrom key
 
   -- what a step owes in one state
   abbrev pub Goes : ℕ → M → ℕ → (ℕ → ℕ) → (ℕ → M → Type 0) → St → Type 0
-  Goes id me i f then s = (w : Place E O) × (a : Act (Option X)) × Valid s.homes me.1 a × Rule (stepped s i (f (slice_index s.words i)) id me.1 w a) × then (slice_index s.words i) (w, carried_after me.1 a)
+  Goes id me i f then s = (w : SeatView E O) × (a : Act (Option X)) × Valid s.homes me.1 a × Rule (stepped s i (f (slice_index s.words i)) id me.1 w a) × then (slice_index s.words i) (w, carried_after me.1 a)
 
   -- a state is that of its words and its one slot
   pub at_words : (G : St → Type 0) (s : St) (r : Rule s) → G (record { words = r.t ∷ r.n ∷ r.c ∷ r.m ∷ []; homes = r.home ∷ []; views = s.views }) → G s
@@ -83,20 +83,20 @@ module _ {E O X : Type 0} (noted : X → List (ℕ × E)) (IsFrom : O → X → 
       )
 
   -- where the ticket is served, no other desk has the value
-  its_turn : (list : List (ℕ × E)) (t n c m id x : ℕ) (home : maybe.Option (Option X)) (views : List (Place E O)) (v : View E O) → Kept noted IsFrom key list t n c m home views
-      → get_elem? views id ≡ some (Living v) → HasTicket x v.stage → n ≡ x → (HasValue v.stage → ⊥) → AtHome noted IsFrom key list n c home views
+  its_turn : (list : List (ℕ × E)) (t n c m id x : ℕ) (home : maybe.Option (Option X)) (views : List (SeatView E O)) (v : View E O) → KeepsRule noted IsFrom key list t n c m home views
+      → get_elem? views id ≡ some (Living v) → HasTicket x v.stage → n ≡ x → (HasValue v.stage → ⊥) → IsAtHome noted IsFrom key list n c home views
   its_turn list t n c m id x home views v k at ticket now without = ⊎_elim
-      (λ (a : AtHome noted IsFrom key list n c home views). a)
+      (λ (a : IsAtHome noted IsFrom key list n c home views). a)
       (λ (o : IsOut home views). absurd (dite (ℕ_discrete o.1.0 id)
       (λ is. without (subst (λ (u : View E O). HasValue u.stage) (living_one o.1.1 v (some-injective (Living o.1.1) (Living v) (sym o.1.2 ∙ (ap (get_elem? views) is ∙ at)))) o.1.3))
       (λ other. (k.apart o.1.0 id o.1.1 v other o.1.2 at).1 x (subst (λ (z : ℕ). HasTicket z o.1.1.stage) now (value_ticket list t n c m o.1.1 o.1.1.stage (k.each o.1.0 o.1.1 o.1.2).stage o.1.3)) ticket)))
       k.value
 
   -- the turn has come
-  comes : (list : List (ℕ × E)) (t n c m id : ℕ) (home : maybe.Option (Option X)) (views : List (Place E O)) (v : View E O) (x : ℕ) → x < 2 ^ 62 → v.stage ≡ Waiting x → n ≡ x
-      → Kept noted IsFrom key list t n c m home views → get_elem? views id ≡ some (Living v)
+  comes : (list : List (ℕ × E)) (t n c m id : ℕ) (home : maybe.Option (Option X)) (views : List (SeatView E O)) (v : View E O) (x : ℕ) → x < 2 ^ 62 → v.stage ≡ Waiting x → n ≡ x
+      → KeepsRule noted IsFrom key list t n c m home views → get_elem? views id ≡ some (Living v)
       → (y : X) × (home ≡ some (Some y)) × (noted y ≡ list) × IsFrom v.origin y × (length list < 2 ^ 62)
-      × Kept noted IsFrom key list t n c m none (set views id (Living (record v { stage = Entered x list })))
+      × KeepsRule noted IsFrom key list t n c m none (set views id (Living (record v { stage = Entered x list })))
   comes list t n c m id home views v x small waits now k at =
       let w : View E O = record v { stage = Entered x list } in let f = k.each id v at in
       let ticket : HasTicket x v.stage = subst (λ (s : Stage E). HasTicket x s) (sym waits) refl in
@@ -146,7 +146,7 @@ module _ {E O X : Type 0} (noted : X → List (ℕ × E)) (IsFrom : O → X → 
         Living v,
         keeps,
         tt,
-        record { list = r.list; t = r.t; n = r.n; c = r.c; m = r.m; home = r.home; words = refl; homes = refl; kept = subst (λ (ps : List (Place E O)). Kept noted IsFrom key r.list r.t r.n r.c r.m r.home ps) (sym (set_again s.views id (Living v) at)) k },
+        record { list = r.list; t = r.t; n = r.n; c = r.c; m = r.m; home = r.home; words = refl; homes = refl; kept = subst (λ (ps : List (SeatView E O)). KeepsRule noted IsFrom key r.list r.t r.n r.c r.m r.home ps) (sym (set_again s.views id (Living v) at)) k },
         λ v' x' e waits'. subst (λ (z : View E O × ℕ). (n ≡ z.1 → Comes noted IsFrom z.0 z.1 [] (Living v, [])) × (n ≢ z.1 → ◌≡◌ {A = M} (Living v, []) (Living v, []))) (same v' x' e waits')
             ((λ now. absurd (later now)), λ _. refl),
       )))
@@ -174,9 +174,9 @@ module _ {E O X : Type 0} (noted : X → List (ℕ × E)) (IsFrom : O → X → 
       one k e h (suc i) d l = absurd (omega arith)
 
   -- the count step of the desk k, to the list of the value y
-  count_one : (list : List (ℕ × E)) (t n c m id : ℕ) (home : maybe.Option (Option X)) (views : List (Place E O)) (v : View E O) (x : ℕ) (l : List (ℕ × E)) (y : X) → v.stage ≡ Entered x l
-      → IsLeft v.number l (noted y) → Kept noted IsFrom key list t n c m home views → get_elem? views id ≡ some (Living v)
-      → (l ≡ list) × Kept noted IsFrom key (noted y) t n (length (noted y)) m home (set views id (Living (counted_view x (noted y) v)))
+  count_one : (list : List (ℕ × E)) (t n c m id : ℕ) (home : maybe.Option (Option X)) (views : List (SeatView E O)) (v : View E O) (x : ℕ) (l : List (ℕ × E)) (y : X) → v.stage ≡ Entered x l
+      → IsLeft v.number l (noted y) → KeepsRule noted IsFrom key list t n c m home views → get_elem? views id ≡ some (Living v)
+      → (l ≡ list) × KeepsRule noted IsFrom key (noted y) t n (length (noted y)) m home (set views id (Living (counted_view x (noted y) v)))
   count_one list t n c m id home views v x l y entered left k at =
       let w : View E O = counted_view x (noted y) v in let f = k.each id v at in let list' : List (ℕ × E) = noted y in let c' : ℕ = length list' in
       let a : AtStage list t n c m v (Entered x l) = subst (λ (s : Stage E). AtStage list t n c m v s) entered f.stage in
@@ -220,13 +220,13 @@ module _ {E O X : Type 0} (noted : X → List (ℕ × E)) (IsFrom : O → X → 
           drawn_else = λ j u d other there is. let h = k.drawn j u d there is in (g.2 d (λ e. h.2 id v at (subst (λ (z : ℕ). InFamily v.number v.family z) e own)) ∙ h.0, h.1, h.2);
           longest = inl refl;
           value = ⊎_elim
-              (λ (h : AtHome noted IsFrom key list n c home views). absurd (h.5 id v at (subst (λ (s : Stage E). HasValue s) (sym entered) tt)))
+              (λ (h : IsAtHome noted IsFrom key list n c home views). absurd (h.5 id v at (subst (λ (s : Stage E). HasValue s) (sym entered) tt)))
               (λ (o : IsOut home views). inr (o.0, (id, w, set_here views id (Living w) (at_below views id (Living v) at), tt)))
               k.value;
         },
       )
     where
-      apart_families : (v u : View E O) (z : ℕ) → Disjoint v u → InFamily u.number u.family z → v.number ≡ z → 0 < v.family → ⊥
+      apart_families : (v u : View E O) (z : ℕ) → AreDisjoint v u → InFamily u.number u.family z → v.number ≡ z → 0 < v.family → ⊥
       apart_families v u z d i e full = ⊎_elim (λ (h : v.number + v.family ≤ u.number). let a = i.0 in omega arith) (λ (h : u.number + u.family ≤ v.number). let a = i.1 in omega arith) d
 
   pub counts : (slots id : ℕ) (v : View E O) (x : ℕ) (l : List (ℕ × E)) (y : X) (held : List (ℕ × Option X)) (old new : ℕ) → v.stage ≡ Entered x l → old ≡ length l → new ≡ length (noted y) → IsLeft v.number l (noted y)
@@ -235,7 +235,7 @@ module _ {E O X : Type 0} (noted : X → List (ℕ × E)) (IsFrom : O → X → 
       let k = r.kept in let c : ℕ = r.c in let h = count_one r.list r.t r.n r.c r.m id r.home s.views v x l y entered left k at in
       let then : ℕ → M → Type 0 = counted noted IsFrom (step slots 2 old new (some (Some y))) (Living v, held) in
       let now : c ≡ old = k.count ∙ (ap length (sym h.0) ∙ sym is_old) in
-      let out : ℕ → Type 0 = λ (n' : ℕ). (w : Place E O) × (a : Act (Option X)) × Valid (r.home ∷ []) held a
+      let out : ℕ → Type 0 = λ (n' : ℕ). (w : SeatView E O) × (a : Act (Option X)) × Valid (r.home ∷ []) held a
       × Rule (stepped (record { words = r.t ∷ r.n ∷ c ∷ r.m ∷ []; homes = r.home ∷ []; views = s.views }) 2 n' id held w a) × then c (w, carried_after held a) in
       at_words (Goes id (Living v, held) 2 (λ n. either (eqb n old) new n) then) s r (subst (λ (b : Bool). out (either b new c)) (sym (eq-eqb c old now)) (
         Living (counted_view x (noted y) v),

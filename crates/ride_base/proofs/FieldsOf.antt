@@ -6,7 +6,7 @@ use Rattle.std.proofs.lemmas.List.{drop_more, take-append-drop, take_rest, get_o
 use Rattle.std.proofs.lemmas.List.Splits.{slice_split_at, slice_split_none}
 use Rattle.std.proofs.lemmas.List.Sums.{fails_before_first, passes_at_first}
 use Rattle.ride_base.specs.Fields.{fields_of, is_blank, is_unblank, has_bytes}
-use Rattle.ride_base.proofs.Searching.{found_is, none_found_is, first_within}
+use Rattle.ride_base.proofs.Positions.{found_is, none_found_is, first_within}
 
 not_false : (b : Bool) → not b ≡ false → b ≡ true
 not_false true h = refl

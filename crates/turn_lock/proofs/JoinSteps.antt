@@ -10,16 +10,16 @@ use Rattle.atomic_table.proofs.Lists.{at_set, set_here, set_else}
 use Rattle.turn_lock.specs.declared.view.Stage.{Stage}
 use Rattle.turn_lock.specs.declared.view.Stage.TheVariants.{Free, Drawn, Joined}
 use Rattle.turn_lock.specs.declared.view.View.{View}
-use Rattle.turn_lock.specs.declared.view.Place.{Place}
-use Rattle.turn_lock.specs.declared.view.Place.TheVariants.{Spent, Living}
+use Rattle.turn_lock.specs.declared.view.SeatView.{SeatView}
+use Rattle.turn_lock.specs.declared.view.SeatView.TheVariants.{Spent, Living}
 use Rattle.turn_lock.specs.declared.view.Key.{Key}
 use Rattle.turn_lock.specs.Noted.{entries_of, Begins, InFamily, longer}
-use Rattle.turn_lock.specs.Rule.{HasValue, IsJoined, tickets_at, AtStage, Fits, Disjoint, Apart, AtHome, IsOut, IsRuled}
+use Rattle.turn_lock.specs.Rule.{HasValue, IsJoined, tickets_at, AtStage, Fits, AreDisjoint, AreApart, IsAtHome, IsOut, IsRuled}
 use Rattle.turn_lock.specs.Steps.{joined, joined_view, free_view, looked}
-use Rattle.turn_lock.proofs.Entries.{begins_itself, begins_length, begins_both, begins_whole, between}
-use Rattle.turn_lock.proofs.Places.{moves, at_below, living_one, flip_apart, tickets-set}
-use Rattle.turn_lock.proofs.Stages.{value_stays}
-use Rattle.turn_lock.proofs.Turning.{Goes, at_words}
+use Rattle.turn_lock.proofs.EntriesOf.{begins_itself, begins_length, begins_both, begins_whole, between}
+use Rattle.turn_lock.proofs.SeatViews.{moves, at_below, living_one, flip_apart, tickets-set}
+use Rattle.turn_lock.proofs.AtStage.{value_stays}
+use Rattle.turn_lock.proofs.TurnSteps.{Goes, at_words}
 
 module _ {E : Type 0} where
   -- the longer of two beginnings of a list, by cases
@@ -42,11 +42,11 @@ module _ {E : Type 0} where
       (p, (some_k, omega arith, begins_itself xs, r, (λ n i. refl), λ n i. between n ys xs list r p (two n (subst (λ (s : ℕ). InFamily (a + k) s n) size i)))))
 
 module _ {E O X : Type 0} (noted : X → List (ℕ × E)) (IsFrom : O → X → Type 0) (key : Key O) where
-  abbrev Rule : State (Option X) (Place E O) → Type 0
+  abbrev Rule : State (Option X) (SeatView E O) → Type 0
   Rule = IsRuled noted IsFrom key
 
   -- the families of two neighbours, as one
-  disjoint_both : (v w u : View E O) → w.number ≡ v.number + v.family → 0 < u.family → Disjoint v u → Disjoint w u → Disjoint (joined_view v w) u
+  disjoint_both : (v w u : View E O) → w.number ≡ v.number + v.family → 0 < u.family → AreDisjoint v u → AreDisjoint w u → AreDisjoint (joined_view v w) u
   disjoint_both v w u next some_u d e = ⊎_elim
       (λ (h : v.number + v.family ≤ u.number). ⊎_elim (λ (g : w.number + w.family ≤ u.number). inl (omega arith)) (λ (g : u.number + u.family ≤ w.number). absurd (omega arith)) e)
       (λ (h : u.number + u.family ≤ v.number). inr h) d
@@ -69,13 +69,13 @@ module _ {E O X : Type 0} (noted : X → List (ℕ × E)) (IsFrom : O → X → 
         stage = h.1;
       }
 
-  same_at : (ps : List (Place E O)) (i j : ℕ) (u v : View E O) → get_elem? ps i ≡ some (Living u) → get_elem? ps j ≡ some (Living v) → i ≡ j → u ≡ v
+  same_at : (ps : List (SeatView E O)) (i j : ℕ) (u v : View E O) → get_elem? ps i ≡ some (Living u) → get_elem? ps j ≡ some (Living v) → i ≡ j → u ≡ v
   same_at ps i j u v at there e = living_one u v (some-injective (Living u) (Living v) (sym at ∙ (ap (get_elem? ps) e ∙ there)))
 
-  same_value : (ps : List (Place E O)) (i j : ℕ) (u v : View E O) → get_elem? ps i ≡ some (Living u) → get_elem? ps j ≡ some (Living v) → i ≡ j → HasValue u.stage → HasValue v.stage
+  same_value : (ps : List (SeatView E O)) (i j : ℕ) (u v : View E O) → get_elem? ps i ≡ some (Living u) → get_elem? ps j ≡ some (Living v) → i ≡ j → HasValue u.stage → HasValue v.stage
   same_value ps i j u v at there e h = subst (λ (z : View E O). HasValue z.stage) (same_at ps i j u v at there e) h
 
-  longest_both : (list : List (ℕ × E)) (ps qs : List (Place E O)) (id other : ℕ) (v w both : View E O) → get_elem? ps id ≡ some (Living v) → get_elem? ps other ≡ some (Living w) → Begins v.seen list → Begins w.seen list
+  longest_both : (list : List (ℕ × E)) (ps qs : List (SeatView E O)) (id other : ℕ) (v w both : View E O) → get_elem? ps id ≡ some (Living v) → get_elem? ps other ≡ some (Living w) → Begins v.seen list → Begins w.seen list
       → ((i : ℕ) × (u : View E O) × (get_elem? ps i ≡ some (Living u)) × (u.seen ≡ list)) → get_elem? qs id ≡ some (Living both) → both.seen ≡ longer v.seen w.seen
       → ((j : ℕ) → j ≢ id → j ≢ other → get_elem? qs j ≡ get_elem? ps j) → (i : ℕ) × (u : View E O) × (get_elem? qs i ≡ some (Living u)) × (u.seen ≡ list)
   longest_both list ps qs id other v w both at there p q old here seen else_ = dite (ℕ_discrete old.0 id)
@@ -89,7 +89,7 @@ module _ {E O X : Type 0} (noted : X → List (ℕ × E)) (IsFrom : O → X → 
   pub joins : (id : ℕ) (v : View E O) (other : ℕ) (w : View E O) → v.stage ≡ Free → w.stage ≡ Free → w.number ≡ v.number + v.family
       → Joins Rule id (Living v) other (Living w) (joined (Living v) (Living w)) Spent
   joins id v other w free free' next s r at away there =
-      let k = r.kept in let both : View E O = joined_view v w in let ps : List (Place E O) = set s.views id (Living both) in let vs : List (Place E O) = set ps other Spent in
+      let k = r.kept in let both : View E O = joined_view v w in let ps : List (SeatView E O) = set s.views id (Living both) in let vs : List (SeatView E O) = set ps other Spent in
       let there' : get_elem? s.views other ≡ some (Living w) = sym (set_else s.views id other (Living both) away) ∙ there in
       let f = k.each id v at in let g = k.each other w there' in
       -- a living view is the joined one, or one that stood beside both
@@ -101,7 +101,7 @@ module _ {E O X : Type 0} (noted : X → List (ℕ × E)) (IsFrom : O → X → 
       (at_set s.views id j (Living both) (Living u) h.1))
       (at_set ps other j Spent (Living u) e) in
       let long : length vs ≡ length s.views = length-set ps other Spent ∙ length-set s.views id (Living both) in
-      let apart_both : (j : ℕ) (u : View E O) → j ≢ id → j ≢ other → get_elem? s.views j ≡ some (Living u) → Disjoint both u = λ j u ne ne' e.
+      let apart_both : (j : ℕ) (u : View E O) → j ≢ id → j ≢ other → get_elem? s.views j ≡ some (Living u) → AreDisjoint both u = λ j u ne ne' e.
       disjoint_both v w u next (k.each j u e).some (k.apart id j v u (λ q. ne (sym q)) at e).0 (k.apart other j w u (λ q. ne' (sym q)) there' e).0 in
       let calm : tickets_at v.stage ≡ 0 = ap tickets_at free in let calm' : tickets_at w.stage ≡ 0 = ap tickets_at free' in
       let still : (u : View E O) → u.stage ≡ Free → HasValue u.stage → ⊥ = λ u e h. subst (λ (z : Stage E). HasValue z) e h in
@@ -126,10 +126,10 @@ module _ {E O X : Type 0} (noted : X → List (ℕ × E)) (IsFrom : O → X → 
           apart = λ i j x y ne e e'. ⊎_elim
               (λ (h : (i ≡ id) × (both ≡ x)). ⊎_elim
               (λ (q : (j ≡ id) × (both ≡ y)). absurd (ne (h.0 ∙ sym q.0)))
-              (λ (q : (j ≢ id) × (j ≢ other) × (get_elem? s.views j ≡ some (Living y))). subst (λ (z : View E O). Apart z y) h.1 (apart_both j y q.0 q.1 q.2, λ z a b. a))
+              (λ (q : (j ≢ id) × (j ≢ other) × (get_elem? s.views j ≡ some (Living y))). subst (λ (z : View E O). AreApart z y) h.1 (apart_both j y q.0 q.1 q.2, λ z a b. a))
               (cases j y e'))
               (λ (h : (i ≢ id) × (i ≢ other) × (get_elem? s.views i ≡ some (Living x))). ⊎_elim
-              (λ (q : (j ≡ id) × (both ≡ y)). subst (λ (z : View E O). Apart x z) q.1 (flip_apart both x (apart_both i x h.0 h.1 h.2, λ z a b. a)))
+              (λ (q : (j ≡ id) × (both ≡ y)). subst (λ (z : View E O). AreApart x z) q.1 (flip_apart both x (apart_both i x h.0 h.1 h.2, λ z a b. a)))
               (λ (q : (j ≢ id) × (j ≢ other) × (get_elem? s.views j ≡ some (Living y))). k.apart i j x y ne h.2 q.2)
               (cases j y e'))
               (cases i x e);
@@ -147,7 +147,7 @@ module _ {E O X : Type 0} (noted : X → List (ℕ × E)) (IsFrom : O → X → 
           longest = longest_both r.list s.views vs id other v w both at there' f.begins g.begins k.longest (set_else ps other id Spent (λ e. away (sym e)) ∙ set_here s.views id (Living both) (at_below s.views id (Living v) at)) refl
               (λ j ne ne'. set_else ps other j Spent ne' ∙ set_else s.views id j (Living both) ne);
           value = ⊎_elim
-              (λ (a : AtHome noted IsFrom key r.list r.n r.c r.home s.views). inl (
+              (λ (a : IsAtHome noted IsFrom key r.list r.n r.c r.home s.views). inl (
                 a.0,
                 a.1,
                 a.2,

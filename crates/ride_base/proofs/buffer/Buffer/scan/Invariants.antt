@@ -1,16 +1,19 @@
-use Rattle.std.proofs.Common.{◌≡◌, ◌+◌, ◌-◌, length, position}
+use Rattle.std.proofs.Common.{◌≡◌, ◌+◌, ◌-◌, ◌≤◌, length, position}
 use Rattle.std.specs.Prelude.{IsSome}
-use Rattle.ride_base.specs.Buffers.{with_front, IsWithinARead}
-use Rattle.ride_base.specs.Outside.{OnlyRead}
+use Rattle.ride_base.specs.Buffers.{with_read, IsWithinARead}
+use Rattle.ride_base.specs.Outside.{CountStays, OnlyRead}
 use Rattle.ride_base.specs.Pieces.{is_line_end}
-use Rattle.ride_base.proofs.buffer.Buffer.front.Given as goal
+use Rattle.ride_base.specs.Reader.{most_held}
+use Rattle.ride_base.proofs.buffer.Buffer.scan.Given as goal
 
 abbrev pub invariant-loop-at : goal.invariant-loop-at
 invariant-loop-at g l =
     let S = g.S.Shelf in
     record {
       shelf : OnlyRead S.IsBegun S.held S.names S.IsSure S.faults l.fn.shelf l.shelf;
-      unread : with_front l.self (S.left l.shelf) ≡ with_front l.fn.self (S.left l.fn.shelf);
+      unread : with_read l.self (S.left l.shelf) ≡ with_read l.fn.self (S.left l.fn.shelf);
+      held : length l.self ≤ most_held;
+      quiet : S.IsQuiet → CountStays S.faults l.fn.shelf l.shelf;
       near : IsWithinARead l.most l.fn.self (S.left l.fn.shelf) (S.left l.shelf);
       holds : IsSome (position is_line_end l.fn.self) → record { shelf : l.shelf ≡ l.fn.shelf; bytes : l.self ≡ l.fn.self };
     }

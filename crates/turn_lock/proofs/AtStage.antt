@@ -9,11 +9,11 @@ use Rattle.atomic_table.proofs.Lists.{set_else}
 use Rattle.turn_lock.specs.declared.view.Stage.{Stage}
 use Rattle.turn_lock.specs.declared.view.Stage.TheVariants.{Free, Drawn, Joined, Waiting, Entered, Counted}
 use Rattle.turn_lock.specs.declared.view.View.{View}
-use Rattle.turn_lock.specs.declared.view.Place.{Place}
-use Rattle.turn_lock.specs.declared.view.Place.TheVariants.{Living}
+use Rattle.turn_lock.specs.declared.view.SeatView.{SeatView}
+use Rattle.turn_lock.specs.declared.view.SeatView.TheVariants.{Living}
 use Rattle.turn_lock.specs.declared.view.Key.{Key}
-use Rattle.turn_lock.specs.Rule.{HasTicket, HasValue, AtStage, AtHome, IsOut}
-use Rattle.turn_lock.proofs.Places.{living_one, each_set}
+use Rattle.turn_lock.specs.Rule.{HasTicket, HasValue, AtStage, IsAtHome, IsOut}
+use Rattle.turn_lock.proofs.SeatViews.{living_one, each_set}
 
 module _ {E O : Type 0} where
   -- a ticket that is held is being served, or will be
@@ -71,11 +71,11 @@ module _ {E O : Type 0} where
 
   module _ {X : Type 0} (noted : X → List (ℕ × E)) (IsFrom : O → X → Type 0) (key : Key O) where
     -- the value stays where it is, where the desk that moves has it neither before nor after
-    pub value_stays : (list : List (ℕ × E)) (n c id : ℕ) (home : maybe.Option (Option X)) (views : List (Place E O)) (v w : View E O) → get_elem? views id ≡ some (Living v)
-        → (HasValue v.stage → ⊥) → (HasValue w.stage → ⊥) → AtHome noted IsFrom key list n c home views ⊎ IsOut home views
-        → AtHome noted IsFrom key list n c home (set views id (Living w)) ⊎ IsOut home (set views id (Living w))
+    pub value_stays : (list : List (ℕ × E)) (n c id : ℕ) (home : maybe.Option (Option X)) (views : List (SeatView E O)) (v w : View E O) → get_elem? views id ≡ some (Living v)
+        → (HasValue v.stage → ⊥) → (HasValue w.stage → ⊥) → IsAtHome noted IsFrom key list n c home views ⊎ IsOut home views
+        → IsAtHome noted IsFrom key list n c home (set views id (Living w)) ⊎ IsOut home (set views id (Living w))
     value_stays list n c id home views v w at before after h = ⊎_elim
-        (λ (a : AtHome noted IsFrom key list n c home views). inl (a.0, a.1, a.2, a.3, a.4, each_set (λ j u. HasValue u.stage → ⊥) views id w after (λ j u other there. a.5 j u there)))
+        (λ (a : IsAtHome noted IsFrom key list n c home views). inl (a.0, a.1, a.2, a.3, a.4, each_set (λ j u. HasValue u.stage → ⊥) views id w after (λ j u other there. a.5 j u there)))
         (λ (o : IsOut home views). inr (
           o.0,
           dite (ℕ_discrete o.1.0 id)

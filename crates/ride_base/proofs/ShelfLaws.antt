@@ -1,6 +1,8 @@
 use Rattle.std.proofs.Common.{ℕ, ◌≤◌, List, ◌∙◌, arith}
 use Rattle.ride_base.specs.Outside.{Held, OnlyRead}
 
+-- Laws of shelves.
+
 -- a shelf that was only read, and only read again
 pub only_read-trans : {Shelf : Type 0} {IsBegun : Shelf → Type 0} {held : Shelf → List ℕ → Held} {names : Shelf → List (List ℕ)} {IsSure : Shelf → Type 0} {faults : Shelf → ℕ} {a b c : Shelf}
     → OnlyRead IsBegun held names IsSure faults a b → OnlyRead IsBegun held names IsSure faults b c → OnlyRead IsBegun held names IsSure faults a c

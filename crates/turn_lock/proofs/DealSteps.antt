@@ -10,16 +10,16 @@ use Rattle.atomic_table.proofs.Lists.{at_longer}
 use Rattle.turn_lock.specs.declared.view.Stage.{Stage}
 use Rattle.turn_lock.specs.declared.view.Stage.TheVariants.{Free, Drawn}
 use Rattle.turn_lock.specs.declared.view.View.{View}
-use Rattle.turn_lock.specs.declared.view.Place.{Place}
-use Rattle.turn_lock.specs.declared.view.Place.TheVariants.{Living}
+use Rattle.turn_lock.specs.declared.view.SeatView.{SeatView}
+use Rattle.turn_lock.specs.declared.view.SeatView.TheVariants.{Living}
 use Rattle.turn_lock.specs.declared.view.Key.{Key}
 use Rattle.turn_lock.specs.Noted.{entries_of, InFamily}
-use Rattle.turn_lock.specs.Rule.{HasTicket, HasValue, tickets_at, tickets, AtStage, Fits, Disjoint, Apart, Unused, AtHome, IsOut, Kept, IsRuled, opening_view}
+use Rattle.turn_lock.specs.Rule.{HasTicket, HasValue, tickets_at, tickets, AtStage, Fits, AreDisjoint, AreApart, IsUnused, IsAtHome, IsOut, KeepsRule, IsRuled, opening_view}
 use Rattle.turn_lock.specs.Steps.{drew_number, drawn_view, free_view, fresh_view, number_drawn, cut_left, cut_right}
-use Rattle.turn_lock.proofs.Entries.{entries_of-above, begins_itself}
-use Rattle.turn_lock.proofs.Places.{moves, living_one, each_set, flip_apart}
-use Rattle.turn_lock.proofs.Stages.{one_more_desk, value_stays}
-use Rattle.turn_lock.proofs.Turning.{Goes, at_words}
+use Rattle.turn_lock.proofs.EntriesOf.{entries_of-above, begins_itself}
+use Rattle.turn_lock.proofs.SeatViews.{moves, living_one, each_set, flip_apart}
+use Rattle.turn_lock.proofs.AtStage.{one_more_desk, value_stays}
+use Rattle.turn_lock.proofs.TurnSteps.{Goes, at_words}
 
 pub at_one : {A : Type 0} (a b : A) (i : ℕ) → get_elem? (a ∷ []) i ≡ some b → (i ≡ 0) × (a ≡ b)
 at_one a b zero e = (refl, some-injective a b e)
@@ -33,7 +33,7 @@ at_end (x ∷ xs) a b zero e = inl e
 at_end (x ∷ xs) a b (suc j) e = ⊎_elim (λ (h : get_elem? xs j ≡ some b). inl h) (λ (h : (j ≡ length xs) × (a ≡ b)). inr (ap suc h.0, h.1)) (at_end xs a b j e)
 
 module _ {E O X : Type 0} (noted : X → List (ℕ × E)) (IsFrom : O → X → Type 0) (key : Key O) where
-  abbrev Rule : State (Option X) (Place E O) → Type 0
+  abbrev Rule : State (Option X) (SeatView E O) → Type 0
   Rule = IsRuled noted IsFrom key
 
   -- the table as it is made
@@ -66,7 +66,7 @@ module _ {E O X : Type 0} (noted : X → List (ℕ × E)) (IsFrom : O → X → 
       }
 
   -- only the first desk draws, and it is alone in that
-  alone_first : (v u : View E O) → Disjoint v u → 0 < v.family → 0 < u.family → v.number ≡ 0 → u.number ≢ 0
+  alone_first : (v u : View E O) → AreDisjoint v u → 0 < v.family → 0 < u.family → v.number ≡ 0 → u.number ≢ 0
   alone_first v u d f g z e = ⊎_elim (λ (h : v.number + v.family ≤ u.number). omega arith) (λ (h : u.number + u.family ≤ v.number). omega arith) d
 
   not_drawn : (list : List (ℕ × E)) (t n c m d : ℕ) (u : View E O) → AtStage list t n c m u u.stage → u.number ≢ 0 → u.stage ≡ Drawn d → ⊥
@@ -114,7 +114,7 @@ module _ {E O X : Type 0} (noted : X → List (ℕ × E)) (IsFrom : O → X → 
                   stage = one_more_desk r.list r.t r.n r.c m u u.stage g.stage ne;
                 };
             alone = λ j u x other there mine theirs. mine;
-            drawn = λ d e. let same : m ≡ d = cc in subst (λ (z : ℕ). Unused r.list s.views (m + 1) z) same
+            drawn = λ d e. let same : m ≡ d = cc in subst (λ (z : ℕ). IsUnused r.list s.views (m + 1) z) same
                 (entries_of-above m m r.list (omega arith) k.numbers, (let h = k.few.0 in omega arith), λ j u there i. let e = (k.each j u there).ends in let l = i.1 in omega arith);
             drawn_else = λ j u d other there is. absurd (not_drawn r.list r.t r.n r.c m d u (k.each j u there).stage (away j u other there) is);
             longest = inr (refl, refl);
@@ -124,15 +124,15 @@ module _ {E O X : Type 0} (noted : X → List (ℕ × E)) (IsFrom : O → X → 
         λ v' e. let a : v ≡ v' = living_one v v' e in ((λ i. (Living (drawn_view m (a i)), [])), made ∙ ap (λ (u : View E O). u.drawn + 1) a),
       )
 
-  tickets-append : (ps qs : List (Place E O)) → tickets (ps ++ qs) ≡ tickets ps + tickets qs
+  tickets-append : (ps qs : List (SeatView E O)) → tickets (ps ++ qs) ≡ tickets ps + tickets qs
   tickets-append [] qs = omega arith
   tickets-append (p ∷ ps) qs = let h = tickets-append ps qs in omega arith
 
   -- a new desk comes, while no other number is drawn
-  arrives : (list : List (ℕ × E)) (t n c m : ℕ) (home : maybe.Option (Option X)) (views : List (Place E O)) (u : View E O) → Kept noted IsFrom key list t n c m home views
-      → length views < m → Fits key list t n c m u → u.stage ≡ Free → ((j : ℕ) (y : View E O) → get_elem? views j ≡ some (Living y) → Disjoint u y)
-      → ((j : ℕ) (y : View E O) (d : ℕ) → get_elem? views j ≡ some (Living y) → y.stage ≡ Drawn d → ⊥) → Kept noted IsFrom key list t n c m home (views ++ Living u ∷ [])
-  arrives list t n c m home views u k room fits free apart none_drawn = let vs : List (Place E O) = views ++ Living u ∷ [] in
+  arrives : (list : List (ℕ × E)) (t n c m : ℕ) (home : maybe.Option (Option X)) (views : List (SeatView E O)) (u : View E O) → KeepsRule noted IsFrom key list t n c m home views
+      → length views < m → Fits key list t n c m u → u.stage ≡ Free → ((j : ℕ) (y : View E O) → get_elem? views j ≡ some (Living y) → AreDisjoint u y)
+      → ((j : ℕ) (y : View E O) (d : ℕ) → get_elem? views j ≡ some (Living y) → y.stage ≡ Drawn d → ⊥) → KeepsRule noted IsFrom key list t n c m home (views ++ Living u ∷ [])
+  arrives list t n c m home views u k room fits free apart none_drawn = let vs : List (SeatView E O) = views ++ Living u ∷ [] in
       let calm : (x : ℕ) → HasTicket x u.stage → ⊥ = λ x h. subst (λ (s : Stage E). HasTicket x s) free h in
       let still : HasValue u.stage → ⊥ = λ h. subst (λ (s : Stage E). HasValue s) free h in
       let e = length-append views (Living u ∷ []) in
@@ -148,10 +148,10 @@ module _ {E O X : Type 0} (noted : X → List (ℕ × E)) (IsFrom : O → X → 
         apart = λ i j x y ne at there. ⊎_elim
             (λ (h : get_elem? views i ≡ some (Living x)). ⊎_elim
             (λ (g : get_elem? views j ≡ some (Living y)). k.apart i j x y ne h g)
-            (λ (g : (j ≡ length views) × (u ≡ y)). subst (λ (z : View E O). Apart x z) g.1 (flip_apart u x (apart i x h, λ z a b. absurd (calm z a))))
+            (λ (g : (j ≡ length views) × (u ≡ y)). subst (λ (z : View E O). AreApart x z) g.1 (flip_apart u x (apart i x h, λ z a b. absurd (calm z a))))
             (either_one j y there))
             (λ (h : (i ≡ length views) × (u ≡ x)). ⊎_elim
-            (λ (g : get_elem? views j ≡ some (Living y)). subst (λ (z : View E O). Apart z y) h.1 (apart j y g, λ z a b. absurd (calm z a)))
+            (λ (g : get_elem? views j ≡ some (Living y)). subst (λ (z : View E O). AreApart z y) h.1 (apart j y g, λ z a b. absurd (calm z a)))
             (λ (g : (j ≡ length views) × (u ≡ y)). absurd (ne (h.0 ∙ sym g.0)))
             (either_one j y there))
             (either_one i x at);
@@ -159,7 +159,7 @@ module _ {E O X : Type 0} (noted : X → List (ℕ × E)) (IsFrom : O → X → 
             (λ (h : (i ≡ length views) × (u ≡ y)). absurd (let g : Free ≡ Drawn d = sym free ∙ (ap (λ (z : View E O). z.stage) h.1 ∙ is) in cc)) (either_one i y at);
         longest = (k.longest.0, k.longest.1, at_longer views (Living u ∷ []) k.longest.0 (Living k.longest.1) k.longest.2, k.longest.3);
         value = ⊎_elim
-            (λ (h : AtHome noted IsFrom key list n c home views). inl (
+            (λ (h : IsAtHome noted IsFrom key list n c home views). inl (
               h.0,
               h.1,
               h.2,
@@ -173,8 +173,8 @@ module _ {E O X : Type 0} (noted : X → List (ℕ × E)) (IsFrom : O → X → 
       }
 
   -- a step that frees the first desk of the number that it drew
-  freed : (list : List (ℕ × E)) (t n c m id d : ℕ) (home : maybe.Option (Option X)) (views : List (Place E O)) (v : View E O) → v.stage ≡ Drawn d → Kept noted IsFrom key list t n c m home views
-      → get_elem? views id ≡ some (Living v) → Kept noted IsFrom key list t n c m home (set views id (Living (free_view v)))
+  freed : (list : List (ℕ × E)) (t n c m id d : ℕ) (home : maybe.Option (Option X)) (views : List (SeatView E O)) (v : View E O) → v.stage ≡ Drawn d → KeepsRule noted IsFrom key list t n c m home views
+      → get_elem? views id ≡ some (Living v) → KeepsRule noted IsFrom key list t n c m home (set views id (Living (free_view v)))
   freed list t n c m id d home views v drew k at = let f = k.each id v at in
       let none_yet : tickets_at v.stage ≡ 0 = ap tickets_at drew in
       moves noted IsFrom key list list t n c m t n c m id home home views v (free_view v) k at record {
@@ -196,7 +196,7 @@ module _ {E O X : Type 0} (noted : X → List (ℕ × E)) (IsFrom : O → X → 
 
   pub splits : (id : ℕ) (v : View E O) (d : ℕ) → v.stage ≡ Drawn d → Splits Rule id (Living v) (cut_left (Living v)) (cut_right (Living v))
   splits id v d drew s r at =
-      let k = r.kept in let f = k.each id v at in let un = k.drawn id v d at drew in let ps : List (Place E O) = set s.views id (Living (free_view v)) in
+      let k = r.kept in let f = k.each id v at in let un = k.drawn id v d at drew in let ps : List (SeatView E O) = set s.views id (Living (free_view v)) in
       let a : AtStage r.list r.t r.n r.c r.m v (Drawn d) = subst (λ (z : Stage E). AtStage r.list r.t r.n r.c r.m v z) drew f.stage in
       let num : number_drawn v.stage ≡ d = ap number_drawn drew in
       let u : View E O = fresh_view d v in
@@ -212,11 +212,11 @@ module _ {E O X : Type 0} (noted : X → List (ℕ × E)) (IsFrom : O → X → 
         home = r.home;
         words = r.words;
         homes = r.homes;
-        kept = subst (λ (z : ℕ). Kept noted IsFrom key r.list r.t r.n r.c r.m r.home (ps ++ Living (fresh_view z v) ∷ [])) (sym num)
+        kept = subst (λ (z : ℕ). KeepsRule noted IsFrom key r.list r.t r.n r.c r.m r.home (ps ++ Living (fresh_view z v) ∷ [])) (sym num)
             (arrives r.list r.t r.n r.c r.m r.home ps u k' (let h = un.1 in omega arith)
             record { desks = f.desks; origin = f.origin; some = omega arith; ends = let h = a.1 in omega arith; begins = (r.list, refl); noted = λ x i. (let e : x ≡ d = omega (arith, i.0, i.1) in ap (λ (z : ℕ). entries_of z r.list) e ∙ un.0); drawn = λ e. absurd (un.2 id v at (let z = a.0 in let o = f.some in (omega arith, omega arith))); stage = tt }
             refl
-            (each_set (λ j y. Disjoint u y) s.views id (free_view v) (away d v (un.2 id v at)) (λ j y other there. away d y (un.2 j y there)))
+            (each_set (λ j y. AreDisjoint u y) s.views id (free_view v) (away d v (un.2 id v at)) (λ j y other there. away d y (un.2 j y there)))
             (λ j y z there is. each_set (λ j y. (z : ℕ) → y.stage ≡ Drawn z → ⊥) s.views id (free_view v) (λ z e. cc)
             (λ j y other there z is. let g = k.each j y there in not_drawn r.list r.t r.n r.c r.m z y g.stage (alone_first v y (k.apart id j v y (λ e. other (sym e)) at there).0 f.some g.some a.0) is) j y there z is));
       }

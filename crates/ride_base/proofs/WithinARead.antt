@@ -1,8 +1,9 @@
 use Rattle.std.proofs.Common.{◌≡◌, ℕ, ◌≤◌, List, ◌++◌, take, length, position, Option, Some, None, refl, sym, ap, ◌∙◌, arith, append_assoc, length-take, length-append}
 use Rattle.std.specs.List.{position_or_len}
-use Rattle.ride_base.specs.Buffers.{Gains, IsWithinARead, with_front, longest_read}
+use Rattle.ride_base.specs.Buffers.{Gains, IsWithinARead, with_read}
+use Rattle.ride_base.specs.Reader.{longest_read}
 use Rattle.ride_base.specs.Pieces.{is_line_end}
-use Rattle.ride_base.proofs.Searching.{first_append, none_found_is}
+use Rattle.ride_base.proofs.Positions.{first_append, none_found_is}
 
 -- nothing came
 pub within_start : (most : ℕ) (held : List ℕ) (left : Option (List ℕ)) → IsWithinARead most held left left
@@ -13,7 +14,7 @@ same_text : (x y : List ℕ) → Some x ≡ Some y → x ≡ y
 same_text x y h = cc
 
 -- one read, where no line end was read before
-pub within_more : (most : ℕ) (held read read' : List ℕ) (left before after : Option (List ℕ)) (k : ℕ) → with_front read before ≡ with_front held left → position is_line_end read ≡ None
+pub within_more : (most : ℕ) (held read read' : List ℕ) (left before after : Option (List ℕ)) (k : ℕ) → with_read read before ≡ with_read held left → position is_line_end read ≡ None
     → length read ≤ most → k ≤ longest_read → Gains read read' before after k → IsWithinARead most held left after
 within_more most held read read' None before after k same none few small gains = tt
 within_more most held read read' (Some left) None after k same none few small gains = cc
@@ -26,7 +27,7 @@ within_more most held read read' (Some left) (Some before) (Some after) k same n
     omega (arith, few, place, size, came, none_found_is is_line_end read none, first_append is_line_end read before, length-append read before, length-append held left, length-append (take k gains.piece) after, length-take k gains.piece)
 
 -- a read takes nothing from what was read and what is left together
-pub unread_more : (read read' : List ℕ) (before after : Option (List ℕ)) (k : ℕ) → Gains read read' before after k → with_front read' after ≡ with_front read before
+pub unread_more : (read read' : List ℕ) (before after : Option (List ℕ)) (k : ℕ) → Gains read read' before after k → with_read read' after ≡ with_read read before
 unread_more read read' None None k gains = refl
 unread_more read read' None (Some after) k gains = absurd gains.moved
 unread_more read read' (Some before) None k gains = absurd gains.moved
