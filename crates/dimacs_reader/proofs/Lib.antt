@@ -1,5 +1,5 @@
-pub mod Giving
-pub mod Joining
-pub mod Placing
-pub mod Roading
-pub mod Undecided
+mod AllOnto
+mod GivesLine
+mod IsUndecided
+mod PlaceTable
+mod RoadLines

@@ -1,7 +1,8 @@
 use Rattle.std.specs.Prelude.{ℕ, ◌+◌, ◌==◌, ◌&&◌, nat_le, cond, List, [], ◌∷◌, Result, Ok, Err}
 use Rattle.ride_base.specs.Pieces.{Piece, Whole, TooLong, TooLarge, pieces, largest_text}
 use Rattle.road_graph.specs.declared.road.Road.{Road}
-use Rattle.road_graph.specs.Roads.{Roads, is_node, most_nodes, most_roads, node}
+use Rattle.road_graph.specs.Roads.{Roads, is_node, node}
+use Rattle.road_graph.specs.Limits.{most_nodes, most_roads}
 use Rattle.dimacs_reader.specs.declared.faults.GraphFault.{GraphFault}
 use Rattle.dimacs_reader.specs.declared.faults.GraphFault.TheVariants.{Form, Count, Node, Weight, Limit}
 use Rattle.dimacs_reader.specs.Forms.{GraphLine, Skipped, Problem, Arc, Formless, graph_line}

@@ -1,7 +1,8 @@
 use Rattle.std.specs.Prelude.{◌≡◌, ℕ, ℤ, ◌+◌, ◌-◌, ◌==◌, ◌&&◌, nat_le, nat_abs, not, Bool, cond, List, [], ◌∷◌, ◌++◌, length, Some, slice_get, Result, Ok, Err}
 use Rattle.std.specs.List.{list_any}
 use Rattle.ride_base.specs.Pieces.{Piece, Whole, TooLong, TooLarge, pieces, largest_text}
-use Rattle.road_graph.specs.Roads.{is_node, most_nodes, node}
+use Rattle.road_graph.specs.Roads.{is_node, node}
+use Rattle.road_graph.specs.Limits.{most_nodes}
 use Rattle.dimacs_reader.specs.declared.faults.GraphFault.{GraphFault}
 use Rattle.dimacs_reader.specs.declared.faults.GraphFault.TheVariants.{Form, Count, Node, Weight, Limit}
 use Rattle.dimacs_reader.specs.Forms.{PlaceLine, Skipped, Header, Place, Formless, place_line}

@@ -3,6 +3,7 @@ use Rattle.std.specs.Option.{option_map}
 use Rattle.ride_base.specs.Fields.{capped}
 use Rattle.ride_base.specs.Pieces.{Piece, Whole, TooLong, TooLarge}
 use Rattle.ride_base.specs.Reader.{Reader}
+use Rattle.ride_base.specs.Told.{ahead}
 use Rattle.ride_base.specs.declared.lines.Line.{Line}
 use Rattle.ride_base.specs.declared.lines.LineFault.{LineFault}
 use Rattle.ride_base.specs.declared.lines.LineFault.TheVariants.{Fault as LineFaultOfShelf, Long, Large, NoMemory as LineNoMemory}
@@ -78,21 +79,21 @@ CountsLine old (Ok false) line new = new.given ≡ old.given
 CountsLine old (Ok true) line new = (line.number ≡ old.given + 1) × (new.given ≡ old.given + 1) × (new.room < old.room)
 CountsLine old (Err error) line new = new.given ≡ old.given
 
--- what the pieces ahead say as a graph, behind so many lines, where they are told
-abbrev pub graph_ahead : (given : ℕ) → Option (List Piece) → Option (Result Roads GraphFault)
-graph_ahead given pieces = option_map (graph_in (given + 1)) pieces
+-- what the pieces ahead of a reader say as a graph, where they are told
+abbrev pub graph_ahead : Reader → (left : Option (List ℕ)) → Option (Result Roads GraphFault)
+graph_ahead reader left = option_map (graph_in (reader.given + 1)) (ahead reader left)
 
 -- what the pieces ahead say as roads behind the problem line
-abbrev pub roads_ahead : (nodes said found given : ℕ) → Option (List Piece) → Option (Result (List Road) GraphFault)
-roads_ahead nodes said found given pieces = option_map (roads_in nodes said found (given + 1)) pieces
+abbrev pub roads_ahead : (nodes said found : ℕ) → Reader → (left : Option (List ℕ)) → Option (Result (List Road) GraphFault)
+roads_ahead nodes said found reader left = option_map (roads_in nodes said found (reader.given + 1)) (ahead reader left)
 
 -- what the pieces ahead say as places of so many nodes
-abbrev pub places_ahead : (nodes given : ℕ) → Option (List Piece) → Option (Result (List Placed) GraphFault)
-places_ahead nodes given pieces = option_map (places_in nodes (given + 1)) pieces
+abbrev pub places_ahead : (nodes : ℕ) → Reader → (left : Option (List ℕ)) → Option (Result (List Placed) GraphFault)
+places_ahead nodes reader left = option_map (places_in nodes (reader.given + 1)) (ahead reader left)
 
 -- what the pieces ahead say as places behind the header, where these were found before
-abbrev pub placed_ahead : (nodes : ℕ) → List Placed → (given : ℕ) → Option (List Piece) → Option (Result (List Placed) GraphFault)
-placed_ahead nodes before given pieces = option_map (places_behind nodes (given + 1) before) pieces
+abbrev pub placed_ahead : (nodes : ℕ) → List Placed → Reader → (left : Option (List ℕ)) → Option (Result (List Placed) GraphFault)
+placed_ahead nodes before reader left = option_map (places_behind nodes (reader.given + 1) before) (ahead reader left)
 
 -- what a line says, by what was made of it
 abbrev pub by_value : {X Y : Type 0} → Result X GraphFault → (X → Result Y GraphFault) → Result Y GraphFault
@@ -113,8 +114,8 @@ placed_by placing = record { node = placing.index + 1; x = placing.x; y = placin
 abbrev pub placed_and : (Placed → Result (List Placed) GraphFault) → Placing → Result (List Placed) GraphFault
 placed_and another placing = onto (placed_by placing) (another (placed_by placing))
 
--- What is kept of places in their order: the coordinates of each node from node 1 on, which of the nodes were placed, and how many.
-pub record AreKept (nodes : ℕ) (places : List Placed) (held : List (ℤ × ℤ)) (marks : List Bool) (count : ℕ) : Type 0 where
+-- A table of places in their order: the coordinates of each node from node 1 on, which of the nodes were placed, and how many.
+pub record IsPlaceTable (nodes : ℕ) (places : List Placed) (held : List (ℤ × ℤ)) (marks : List Bool) (count : ℕ) : Type 0 where
   pub all : length held ≡ nodes
   pub marked : length marks ≡ nodes
   pub counted : count ≡ length places

@@ -16,18 +16,18 @@ IsRefusal (Limit line) = Unit {0}
 IsRefusal NoMemory = ⊥
 
 -- the line by which a text is refused
-abbrev pub line_of : GraphFault → ℕ
-line_of Fault = 0
-line_of (Form line) = line
-line_of (Count line said found) = line
-line_of (Node line) = line
-line_of (Weight line) = line
-line_of (Limit line) = line
-line_of NoMemory = 0
+abbrev pub refused_line : GraphFault → ℕ
+refused_line Fault = 0
+refused_line (Form line) = line
+refused_line (Count line said found) = line
+refused_line (Node line) = line
+refused_line (Weight line) = line
+refused_line (Limit line) = line
+refused_line NoMemory = 0
 
 -- Where the shelf failed, the line end of no bad line was read, nor a byte past the limit of the text.
 abbrev pub IsUndecided : {X : Type 0} → Result X GraphFault → List ℕ → Option (List ℕ) → Type 0
-IsUndecided said text left = (r : IsReadTo largest_text text left) × ((fault : GraphFault) → said ≡ Err fault → length (ended_lines r.read) < line_of fault)
+IsUndecided said text left = (r : IsReadTo largest_text text left) × ((fault : GraphFault) → said ≡ Err fault → length (ended_lines r.read) < refused_line fault)
 
 -- a reader that isn't at the end of its text gave as many lines of it as it counted, and no others
 abbrev pub IsReadFrom : List ℕ → Reader → Option (List ℕ) → Type 0

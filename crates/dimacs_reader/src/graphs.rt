@@ -1,14 +1,14 @@
-ghost use Rattle.std.specs.Prelude.{◌≡◌, ℕ, ◌<◌, ◌≤◌, ◌++◌, true, false, IfOk, IfErr, IfSome, IfNone, IsOk, Err, None, List, Result, Ok, OnOk, OnErr};
-ghost use Rattle.std.specs.Option.{option_map, option_to_list};
-ghost use Rattle.ride_base.specs.Outside.{Rose, OnlyRead};
-ghost use Rattle.ride_base.specs.Told.{WhereTold, ahead};
+ghost use Rattle.std.specs.Prelude.{◌≡◌, ◌≢◌, ℕ, ◌<◌, ◌≤◌, ◌++◌, true, false, IfOk, IfErr, IfSome, IfNone, IsOk, Err, None, OnOk, OnErr};
+ghost use Rattle.std.specs.Option.{option_to_list};
+ghost use Rattle.ride_base.specs.Outside.{CountRose, CountStays, OnlyRead};
 ghost use Rattle.road_graph.specs.Faults.{fault_in};
 ghost use Rattle.road_graph.specs.Graphs.{IsGraph};
-ghost use Rattle.road_graph.specs.Roads.{Roads, is_node, is_within, node as node_of, most_nodes, most_roads};
-ghost use Rattle.dimacs_reader.specs.Forms.{graph_line as graph_line_in};
-ghost use Rattle.dimacs_reader.specs.Graphs.{graph_of, over_nodes, onto, arc_line, road_and, first_line};
-ghost use Rattle.dimacs_reader.specs.Reading.{graph_ahead, roads_ahead, by_answer, by_value};
-ghost use Rattle.dimacs_reader.specs.Refusals.{IsRefusal, IsUndecided, IsReadFrom};
+ghost use Rattle.road_graph.specs.Roads.{is_node, is_within, node as node_of};
+ghost use Rattle.road_graph.specs.Limits.{most_nodes, most_roads};
+ghost use Rattle.dimacs_reader.specs.Calls.{IsGraphOf, IsProblemAhead, IsSaid, LeavesUndecided, Refuses, RefusesText, SaysArc, SaysProblem, SaysRoad, StaysReadFrom, StaysUndecided, said_roads};
+ghost use Rattle.dimacs_reader.specs.Graphs.{graph_of};
+ghost use Rattle.dimacs_reader.specs.Reading.{graph_ahead};
+ghost use Rattle.dimacs_reader.specs.Refusals.{IsRefusal};
 
 use crate::faults::GraphFault;
 use crate::forms::{GraphLine, graph_line};
@@ -39,11 +39,14 @@ struct Said {
 /// stays begun, and the shelf stands behind what was read of it, which may be more than the line that is told.
 pub fn read_graph<S: Shelf>(alloc: Global, shelf: &mut S) -> Result<Graph, GraphFault>
     requires { S.IsBegun shelf.old }
-    ensures graph { IfOk result (λ g. WhereTold (S.left shelf.old) (λ text. graph_of text ≡ Ok g)) }
-    ensures refused { IfErr result (λ e. IsRefusal e → WhereTold (S.left shelf.old) (λ text. graph_of text ≡ Err e)) }
-    ensures unread { result ≡ Err GraphFault.Fault → WhereTold (S.left shelf.old) (λ text. IsUndecided (graph_of text) text (S.left shelf.new)) }
+    ensures graph { IfOk result (IsGraphOf (S.left shelf.old)) }
+    ensures refused { RefusesText graph_of (S.left shelf.old) result }
+    ensures unread { result ≡ Err GraphFault.Fault
+        → LeavesUndecided graph_of S.left shelf.old shelf.new }
     ensures is_graph { IfOk result IsGraph }
-    ensures fault { result ≡ Err GraphFault.Fault → Rose (S.faults shelf.old) (S.faults shelf.new) }
+    ensures fault { result ≡ Err GraphFault.Fault → CountRose S.faults shelf.old shelf.new }
+    ensures quiet { S.IsQuiet → result ≢ Err GraphFault.Fault
+        → CountStays S.faults shelf.old shelf.new }
     ensures surely { S.IsSure shelf.old → result ≡ Err GraphFault.Fault → ⊥ }
     ensures shelf { OnlyRead S.IsBegun S.held S.names S.IsSure S.faults shelf.old shelf.new }
 {
@@ -66,14 +69,17 @@ fn read_problem<S: Shelf>(
 ) -> Result<Said, GraphFault>
     requires begun { S.IsBegun shelf.old }
     requires unstopped { lines.old.stopped ≡ None }
-    ensures said { IfOk result (λ said. graph_ahead lines.old.given (ahead lines.old (S.left shelf.old)) ≡ option_map (over_nodes said.nodes) (roads_ahead said.nodes said.roads 0 lines.new.given (ahead lines.new (S.left shelf.new)))) }
+    ensures said { IfOk result (IsProblemAhead S.left lines.old shelf.old lines.new shelf.new) }
     ensures few_nodes { IfOk result (λ said. said.nodes ≤ most_nodes) }
     ensures few_roads { IfOk result (λ said. said.roads ≤ most_roads) }
-    ensures refused { IfErr result (λ e. IsRefusal e → WhereTold (graph_ahead lines.old.given (ahead lines.old (S.left shelf.old))) (λ answer. answer ≡ Err e)) }
-    ensures goes { IsOk result → (text : List ℕ) → IsReadFrom text lines.old (S.left shelf.old) → IsReadFrom text lines.new (S.left shelf.new) }
-    ensures unread { result ≡ Err GraphFault.Fault → (text : List ℕ) → IsReadFrom text lines.old (S.left shelf.old) → WhereTold (graph_ahead lines.old.given (ahead lines.old (S.left shelf.old))) (λ said. IsUndecided said text (S.left shelf.new)) }
+    ensures refused { Refuses (graph_ahead lines.old (S.left shelf.old)) result }
+    ensures goes { IsOk result → StaysReadFrom S.left lines.old shelf.old lines.new shelf.new }
+    ensures unread { result ≡ Err GraphFault.Fault
+        → StaysUndecided graph_ahead S.left lines.old shelf.old shelf.new }
     ensures unstopped { IsOk result → lines.new.stopped ≡ None }
-    ensures fault { result ≡ Err GraphFault.Fault → Rose (S.faults shelf.old) (S.faults shelf.new) }
+    ensures fault { result ≡ Err GraphFault.Fault → CountRose S.faults shelf.old shelf.new }
+    ensures quiet { S.IsQuiet → result ≢ Err GraphFault.Fault
+        → CountStays S.faults shelf.old shelf.new }
     ensures surely { S.IsSure shelf.old → result ≡ Err GraphFault.Fault → ⊥ }
     ensures shelf { OnlyRead S.IsBegun S.held S.names S.IsSure S.faults shelf.old shelf.new }
 {
@@ -89,7 +95,7 @@ fn read_problem<S: Shelf>(
 
 /// What a line says where no problem line came before it. None is of a line that is skipped.
 fn problem_of(line: &Line) -> Result<Option<Said>, GraphFault>
-    ensures says { (skipped : Result Roads GraphFault) (behind : ℕ → ℕ → Result (List Road) GraphFault) → first_line line.now.number (graph_line_in line.now.bytes) skipped behind ≡ by_answer result skipped (λ said. over_nodes said.nodes (behind said.nodes said.roads)) }
+    ensures says { SaysProblem line.now result }
     ensures few_nodes { IfOk result (λ o. IfSome o (λ said. said.nodes ≤ most_nodes)) }
     ensures few_roads { IfOk result (λ o. IfSome o (λ said. said.roads ≤ most_roads)) }
     ensures refusal { IfErr result IsRefusal }
@@ -121,11 +127,14 @@ fn read_roads<S: Shelf>(
     requires unstopped { lines.old.stopped ≡ None }
     requires few_nodes { said.nodes ≤ most_nodes }
     requires few_roads { said.roads ≤ most_roads }
-    ensures roads { IfOk result (λ roads. WhereTold (roads_ahead said.nodes said.roads 0 lines.old.given (ahead lines.old (S.left shelf.old))) (λ answer. answer ≡ Ok roads)) }
+    ensures roads { IfOk result (IsSaid (said_roads said lines.old (S.left shelf.old))) }
     ensures sound { IfOk result (λ roads. fault_in said.nodes roads ≡ None) }
-    ensures refused { IfErr result (λ e. IsRefusal e → WhereTold (roads_ahead said.nodes said.roads 0 lines.old.given (ahead lines.old (S.left shelf.old))) (λ answer. answer ≡ Err e)) }
-    ensures unread { result ≡ Err GraphFault.Fault → (text : List ℕ) → IsReadFrom text lines.old (S.left shelf.old) → WhereTold (roads_ahead said.nodes said.roads 0 lines.old.given (ahead lines.old (S.left shelf.old))) (λ answer. IsUndecided answer text (S.left shelf.new)) }
-    ensures fault { result ≡ Err GraphFault.Fault → Rose (S.faults shelf.old) (S.faults shelf.new) }
+    ensures refused { Refuses (said_roads said lines.old (S.left shelf.old)) result }
+    ensures unread { result ≡ Err GraphFault.Fault
+        → StaysUndecided (said_roads said) S.left lines.old shelf.old shelf.new }
+    ensures fault { result ≡ Err GraphFault.Fault → CountRose S.faults shelf.old shelf.new }
+    ensures quiet { S.IsQuiet → result ≢ Err GraphFault.Fault
+        → CountStays S.faults shelf.old shelf.new }
     ensures surely { S.IsSure shelf.old → result ≡ Err GraphFault.Fault → ⊥ }
     ensures shelf { OnlyRead S.IsBegun S.held S.names S.IsSure S.faults shelf.old shelf.new }
 {
@@ -158,7 +167,7 @@ fn push_some(roads: &mut Items<Road>, road: Option<Road>) -> Result<(), NoMemory
 /// What a line says behind the problem line, where so many roads were found before it. None is of a line that is skipped.
 fn road_of(line: &Line, said: Said, found: usize) -> Result<Option<Road>, GraphFault>
     requires few { found ≤ said.roads }
-    ensures says { (skipped another : Result (List Road) GraphFault) → arc_line said.nodes said.roads found line.now.number (graph_line_in line.now.bytes) skipped another ≡ by_answer result skipped (λ road. onto road another) }
+    ensures says { SaysArc said found line.now result }
     ensures within { IfOk result (λ o. IfSome o (λ road. is_within said.nodes road ≡ true)) }
     ensures fewer { IfOk result (λ o. IfSome o (λ _. found < said.roads)) }
     ensures refusal { IfErr result IsRefusal }
@@ -183,7 +192,7 @@ fn road_of(line: &Line, said: Said, found: usize) -> Result<Option<Road>, GraphF
 
 /// The road of a line, among so many nodes.
 fn road(line: u64, nodes: u32, from: u64, to: u64, weight: u64) -> Result<Road, GraphFault>
-    ensures says { (another : Result (List Road) GraphFault) → road_and nodes line from to weight another ≡ by_value result (λ road. onto road another) }
+    ensures says { SaysRoad nodes line from to weight result }
     ensures within { IfOk result (λ road. is_within nodes road ≡ true) }
     ensures refusal { IfErr result IsRefusal }
 {

@@ -1,9 +1,10 @@
-ghost use Rattle.std.specs.Prelude.{◌≡◌, ℕ, ◌+◌, [], true, false, List, Option, Some, None, IsOk, Ok, Err};
-ghost use Rattle.ride_base.specs.Outside.{Rose, OnlyRead};
+ghost use Rattle.std.specs.Prelude.{◌≡◌, ◌≢◌, ℕ, ◌+◌, true, List, Some, None, IsOk, Ok, Err};
+ghost use Rattle.ride_base.specs.Outside.{CountRose, CountStays, OnlyRead};
 ghost use Rattle.ride_base.specs.Pieces.{largest_text};
-ghost use Rattle.ride_base.specs.Told.{ahead};
-ghost use Rattle.dimacs_reader.specs.Reading.{GivesLine, CountsLine, fault_at as fault_of};
-ghost use Rattle.dimacs_reader.specs.Refusals.{IsReadFrom, IsReadBehind};
+ghost use Rattle.ride_base.specs.Reader.{new_reader};
+ghost use Rattle.dimacs_reader.specs.Calls.{GivesNext, HasReadNoMore, StaysReadFrom};
+ghost use Rattle.dimacs_reader.specs.Reading.{CountsLine, fault_at as fault_of};
+ghost use Rattle.dimacs_reader.specs.Refusals.{IsReadFrom};
 
 use crate::faults::GraphFault;
 use ride_base::{LARGEST_TEXT, Line, LineFault, Lines, Shelf};
@@ -27,7 +28,7 @@ impl Model for CountedLines {
 impl CountedLines {
     /// The lines of a text that may have 2^30 bytes. It takes no memory.
     pub fn new(alloc: Global) -> CountedLines
-        ensures fresh { result ≡ record { pending = []; given = 0; room = largest_text; stopped = None; over = false } }
+        ensures fresh { result ≡ new_reader largest_text }
         ensures none { (text : List ℕ) → IsReadFrom text result (Some text) }
     {
         CountedLines {
@@ -51,12 +52,16 @@ impl CountedLines {
     ) -> Result<bool, GraphFault>
         requires begun { S.IsBegun shelf.old }
         requires unstopped { self.old.stopped ≡ None }
-        ensures gives { GivesLine self.old.given (ahead self.old (S.left shelf.old)) result line.new (ahead self.new (S.left shelf.new)) }
+        ensures gives { GivesNext S.left self.old shelf.old result line.new self.new shelf.new }
         ensures counts { CountsLine self.old result line.new self.new }
-        ensures goes { result ≡ Ok true → (text : List ℕ) → IsReadFrom text self.old (S.left shelf.old) → IsReadFrom text self.new (S.left shelf.new) }
-        ensures unread { result ≡ Err GraphFault.Fault → (text : List ℕ) → IsReadFrom text self.old (S.left shelf.old) → IsReadBehind text (S.left shelf.new) self.old.given }
+        ensures goes { result ≡ Ok true
+            → StaysReadFrom S.left self.old shelf.old self.new shelf.new }
+        ensures unread { result ≡ Err GraphFault.Fault
+            → HasReadNoMore S.left self.old shelf.old shelf.new }
         ensures unstopped { IsOk result → self.new.stopped ≡ None }
-        ensures fault { result ≡ Err GraphFault.Fault → Rose (S.faults shelf.old) (S.faults shelf.new) }
+        ensures fault { result ≡ Err GraphFault.Fault → CountRose S.faults shelf.old shelf.new }
+        ensures quiet { S.IsQuiet → result ≢ Err GraphFault.Fault
+            → CountStays S.faults shelf.old shelf.new }
         ensures surely { S.IsSure shelf.old → result ≡ Err GraphFault.Fault → ⊥ }
         ensures shelf { OnlyRead S.IsBegun S.held S.names S.IsSure S.faults shelf.old shelf.new }
     {

@@ -1,12 +1,10 @@
-ghost use Rattle.std.specs.Prelude.{◌≡◌, ℕ, ℤ, ◌<◌, ◌≤◌, ◌+◌, ◌-◌, ◌^◌, [], true, false, IfOk, IfErr, IfSome, IfNone, IsOk, Err, None, List, ◌++◌, Result, Ok, OnOk, length, get_or, set, cond};
-ghost use Rattle.std.specs.Option.{option_map, option_to_list};
-ghost use Rattle.ride_base.specs.Fields.{capped};
-ghost use Rattle.ride_base.specs.Outside.{Rose, OnlyRead};
-ghost use Rattle.ride_base.specs.Told.{WhereTold, ahead};
-ghost use Rattle.dimacs_reader.specs.Forms.{place_line as place_line_in};
-ghost use Rattle.dimacs_reader.specs.Places.{Placed, AreCoordinates, places_of, opening_line, later_line, place_and};
-ghost use Rattle.dimacs_reader.specs.Reading.{places_ahead, placed_ahead, by_answer, by_value, placed_and, AreKept, placed_by, read_coordinate};
-ghost use Rattle.dimacs_reader.specs.Refusals.{IsRefusal, IsUndecided, IsReadFrom};
+ghost use Rattle.std.specs.Prelude.{◌≡◌, ◌≢◌, ℕ, ◌<◌, ◌≤◌, ◌+◌, ◌-◌, ◌^◌, [], true, IfOk, IfErr, IfSome, IfNone, IsOk, Err, None, OnOk, length, set};
+ghost use Rattle.std.specs.Option.{option_to_list};
+ghost use Rattle.ride_base.specs.Outside.{CountRose, CountStays, OnlyRead};
+ghost use Rattle.dimacs_reader.specs.Calls.{ArePlacesOf, AreSaidPlaces, HoldsMore, HoldsPlaces, IsFreeAt, IsHeaderAhead, IsNoneFree, LeavesUndecided, Refuses, RefusesText, SaysHeader, SaysPlace, SaysPlacing, StaysReadFrom, StaysUndecided};
+ghost use Rattle.dimacs_reader.specs.Places.{places_of};
+ghost use Rattle.dimacs_reader.specs.Reading.{places_ahead, placed_ahead};
+ghost use Rattle.dimacs_reader.specs.Refusals.{IsRefusal};
 
 use crate::faults::GraphFault;
 use crate::forms::{Coordinate, PlaceLine, place_line};
@@ -43,11 +41,14 @@ pub fn read_places<S: Shelf>(
     nodes: u32,
 ) -> Result<Vec<(i64, i64)>, GraphFault>
     requires { S.IsBegun shelf.old }
-    ensures places { IfOk result (λ v. WhereTold (S.left shelf.old) (λ text. (placed : List Placed) × (places_of nodes text ≡ Ok placed) × AreCoordinates nodes placed v.items)) }
+    ensures places { IfOk result (λ v. ArePlacesOf nodes (S.left shelf.old) v.items) }
     ensures all { IfOk result (λ v. length v.items ≡ nodes) }
-    ensures refused { IfErr result (λ e. IsRefusal e → WhereTold (S.left shelf.old) (λ text. places_of nodes text ≡ Err e)) }
-    ensures unread { result ≡ Err GraphFault.Fault → WhereTold (S.left shelf.old) (λ text. IsUndecided (places_of nodes text) text (S.left shelf.new)) }
-    ensures fault { result ≡ Err GraphFault.Fault → Rose (S.faults shelf.old) (S.faults shelf.new) }
+    ensures refused { RefusesText (places_of nodes) (S.left shelf.old) result }
+    ensures unread { result ≡ Err GraphFault.Fault
+        → LeavesUndecided (places_of nodes) S.left shelf.old shelf.new }
+    ensures fault { result ≡ Err GraphFault.Fault → CountRose S.faults shelf.old shelf.new }
+    ensures quiet { S.IsQuiet → result ≢ Err GraphFault.Fault
+        → CountStays S.faults shelf.old shelf.new }
     ensures surely { S.IsSure shelf.old → result ≡ Err GraphFault.Fault → ⊥ }
     ensures shelf { OnlyRead S.IsBegun S.held S.names S.IsSure S.faults shelf.old shelf.new }
 {
@@ -66,12 +67,16 @@ fn read_header<S: Shelf>(
 ) -> Result<(), GraphFault>
     requires begun { S.IsBegun shelf.old }
     requires unstopped { lines.old.stopped ≡ None }
-    ensures header { OnOk result (places_ahead nodes lines.old.given (ahead lines.old (S.left shelf.old)) ≡ placed_ahead nodes [] lines.new.given (ahead lines.new (S.left shelf.new))) }
-    ensures refused { IfErr result (λ e. IsRefusal e → WhereTold (places_ahead nodes lines.old.given (ahead lines.old (S.left shelf.old))) (λ answer. answer ≡ Err e)) }
-    ensures goes { IsOk result → (text : List ℕ) → IsReadFrom text lines.old (S.left shelf.old) → IsReadFrom text lines.new (S.left shelf.new) }
-    ensures unread { result ≡ Err GraphFault.Fault → (text : List ℕ) → IsReadFrom text lines.old (S.left shelf.old) → WhereTold (places_ahead nodes lines.old.given (ahead lines.old (S.left shelf.old))) (λ said. IsUndecided said text (S.left shelf.new)) }
+    ensures header { OnOk result
+        (IsHeaderAhead nodes S.left lines.old shelf.old lines.new shelf.new) }
+    ensures refused { Refuses (places_ahead nodes lines.old (S.left shelf.old)) result }
+    ensures goes { IsOk result → StaysReadFrom S.left lines.old shelf.old lines.new shelf.new }
+    ensures unread { result ≡ Err GraphFault.Fault
+        → StaysUndecided (places_ahead nodes) S.left lines.old shelf.old shelf.new }
     ensures unstopped { IsOk result → lines.new.stopped ≡ None }
-    ensures fault { result ≡ Err GraphFault.Fault → Rose (S.faults shelf.old) (S.faults shelf.new) }
+    ensures fault { result ≡ Err GraphFault.Fault → CountRose S.faults shelf.old shelf.new }
+    ensures quiet { S.IsQuiet → result ≢ Err GraphFault.Fault
+        → CountStays S.faults shelf.old shelf.new }
     ensures surely { S.IsSure shelf.old → result ≡ Err GraphFault.Fault → ⊥ }
     ensures shelf { OnlyRead S.IsBegun S.held S.names S.IsSure S.faults shelf.old shelf.new }
 {
@@ -87,7 +92,7 @@ fn read_header<S: Shelf>(
 
 /// Whether a line is the header, where none came before it.
 fn is_header(line: &Line, nodes: u32) -> Result<bool, GraphFault>
-    ensures says { (skipped behind : Result (List Placed) GraphFault) → opening_line nodes line.now.number (place_line_in line.now.bytes) skipped behind ≡ by_value result (λ header. cond header behind skipped) }
+    ensures says { SaysHeader nodes line.now result }
     ensures refusal { IfErr result IsRefusal }
 {
     match place_line(line.bytes.as_slice()) {
@@ -121,11 +126,15 @@ fn read_each<S: Shelf>(
 ) -> Result<Vec<(i64, i64)>, GraphFault>
     requires begun { S.IsBegun shelf.old }
     requires unstopped { lines.old.stopped ≡ None }
-    ensures places { IfOk result (λ v. WhereTold (placed_ahead nodes [] lines.old.given (ahead lines.old (S.left shelf.old))) (λ answer. (placed : List Placed) × (answer ≡ Ok placed) × AreCoordinates nodes placed v.items)) }
+    ensures places { IfOk result
+        (λ v. AreSaidPlaces nodes (placed_ahead nodes [] lines.old (S.left shelf.old)) v.items) }
     ensures all { IfOk result (λ v. length v.items ≡ nodes) }
-    ensures refused { IfErr result (λ e. IsRefusal e → WhereTold (placed_ahead nodes [] lines.old.given (ahead lines.old (S.left shelf.old))) (λ answer. answer ≡ Err e)) }
-    ensures unread { result ≡ Err GraphFault.Fault → (text : List ℕ) → IsReadFrom text lines.old (S.left shelf.old) → WhereTold (placed_ahead nodes [] lines.old.given (ahead lines.old (S.left shelf.old))) (λ said. IsUndecided said text (S.left shelf.new)) }
-    ensures fault { result ≡ Err GraphFault.Fault → Rose (S.faults shelf.old) (S.faults shelf.new) }
+    ensures refused { Refuses (placed_ahead nodes [] lines.old (S.left shelf.old)) result }
+    ensures unread { result ≡ Err GraphFault.Fault
+        → StaysUndecided (placed_ahead nodes []) S.left lines.old shelf.old shelf.new }
+    ensures fault { result ≡ Err GraphFault.Fault → CountRose S.faults shelf.old shelf.new }
+    ensures quiet { S.IsQuiet → result ≢ Err GraphFault.Fault
+        → CountStays S.faults shelf.old shelf.new }
     ensures surely { S.IsSure shelf.old → result ≡ Err GraphFault.Fault → ⊥ }
     ensures shelf { OnlyRead S.IsBegun S.held S.names S.IsSure S.faults shelf.old shelf.new }
 {
@@ -147,7 +156,7 @@ fn read_each<S: Shelf>(
 impl Coordinates {
     /// None of so many nodes is placed.
     fn unplaced(alloc: Global, nodes: u32) -> Result<Coordinates, NoMemory>
-        ensures { IfOk result (λ c. AreKept nodes [] c.held.items c.placed.items c.count) }
+        ensures { IfOk result (HoldsPlaces nodes []) }
     {
         let mut held = Vec::new(alloc);
         held.resize(nodes as usize, (0, 0))?;
@@ -163,10 +172,8 @@ impl Coordinates {
     /// What a line says behind the header. None is of a line that is skipped.
     fn placing_of(&self, line: &Line, nodes: u32) -> Result<Option<Placing>, GraphFault>
         requires { self.now.count ≤ nodes }
-        ensures says { (before : List Placed) → AreKept nodes before self.now.held.items self.now.placed.items self.now.count → (skipped : Result (List Placed) GraphFault) (another : Placed → Result (List Placed) GraphFault)
-            → later_line nodes line.now.number before (place_line_in line.now.bytes) skipped another ≡ by_answer result skipped (placed_and another) }
-        ensures within { IfOk result (λ o. IfSome o (λ placing. placing.index < length self.now.placed.items)) }
-        ensures free { IfOk result (λ o. IfSome o (λ placing. get_or self.now.placed.items placing.index false ≡ false)) }
+        ensures says { SaysPlace nodes self.now line.now result }
+        ensures free { IfOk result (λ o. IfSome o (λ placing. IsFreeAt self.now placing.index)) }
         ensures fewer { IfOk result (λ o. IfSome o (λ _. self.now.count < nodes)) }
         ensures refusal { IfErr result IsRefusal }
     {
@@ -196,10 +203,8 @@ impl Coordinates {
         x: Coordinate,
         y: Coordinate,
     ) -> Result<Placing, GraphFault>
-        ensures says { (nodes : ℕ) (before : List Placed) → nodes < 2 ^ 32 → AreKept nodes before self.now.held.items self.now.placed.items self.now.count → (number : ℕ) (east north : ℤ) → node ≡ capped number → x ≡ read_coordinate east → y ≡ read_coordinate north
-            → (another : Placed → Result (List Placed) GraphFault) → place_and nodes line before (record { node = number; x = east; y = north }) (another (record { node = number; x = east; y = north })) ≡ by_value result (placed_and another) }
-        ensures within { IfOk result (λ placing. placing.index < length self.now.placed.items) }
-        ensures free { IfOk result (λ placing. get_or self.now.placed.items placing.index false ≡ false) }
+        ensures says { SaysPlacing self.now line node x y result }
+        ensures free { IfOk result (λ placing. IsFreeAt self.now placing.index) }
         ensures refusal { IfErr result IsRefusal }
     {
         let Some(index) = self.free(node) else {
@@ -213,8 +218,8 @@ impl Coordinates {
 
     /// Where the node of that number stands, if it is one that has no place.
     fn free(&self, node: u64) -> Option<usize>
-        ensures some { IfSome result (λ i. (node ≡ i + 1) × (i < length self.now.placed.items) × (get_or self.now.placed.items i false ≡ false)) }
-        ensures none { IfNone result ((i : ℕ) → node ≡ i + 1 → i < length self.now.placed.items → get_or self.now.placed.items i false ≡ true) }
+        ensures some { IfSome result (λ i. (node ≡ i + 1) × IsFreeAt self.now i) }
+        ensures none { IfNone result (IsNoneFree self.now node) }
     {
         let index = node.checked_sub(1)? as usize;
         if index < self.placed.len() && !self.placed[index] {
@@ -227,11 +232,9 @@ impl Coordinates {
     /// Places a node that has no place, where there is one to be placed.
     fn put_some(&mut self, placing: Option<Placing>)
         requires same { length self.old.held.items ≡ length self.old.placed.items }
-        requires within { IfSome placing (λ placing. placing.index < length self.old.placed.items) }
-        requires free { IfSome placing (λ placing. get_or self.old.placed.items placing.index false ≡ false) }
+        requires free { IfSome placing (λ placing. IsFreeAt self.old placing.index) }
         requires few { IfSome placing (λ _. self.old.count < 2 ^ 32 - 1) }
-        ensures kept { (nodes : ℕ) (before : List Placed) → AreKept nodes before self.old.held.items self.old.placed.items self.old.count
-            → AreKept nodes (before ++ option_to_list (option_map placed_by placing)) self.new.held.items self.new.placed.items self.new.count }
+        ensures holds { HoldsMore self.old placing self.new }
         ensures count { self.new.count ≡ self.old.count + length (option_to_list placing) }
     {
         if let Some(placing) = placing {
@@ -244,7 +247,8 @@ impl Coordinates {
         requires held { placing.index < length self.old.held.items }
         requires placed { placing.index < length self.old.placed.items }
         requires few { self.old.count < 2 ^ 32 - 1 }
-        ensures held { self.new.held.items ≡ set self.old.held.items placing.index (placing.x, placing.y) }
+        ensures held { self.new.held.items
+            ≡ set self.old.held.items placing.index (placing.x, placing.y) }
         ensures placed { self.new.placed.items ≡ set self.old.placed.items placing.index true }
         ensures count { self.new.count ≡ self.old.count + 1 }
     {

@@ -1,21 +1,15 @@
-pub mod Apart
-pub mod Begins
-pub mod Existing
-pub mod Facing
-pub mod Finishing
-pub mod Heap
-pub mod Ins
-pub mod Joins
-pub mod Lawful
-pub mod Lists
-pub mod Looking
-pub mod Lower
-pub mod Offering
-pub mod Pairing
-pub mod Parting
-pub mod Searches
-pub mod Settles
-pub mod Simple
-pub mod Tracing
-pub mod Turned
-pub mod Valid
+mod ArePairs
+mod ArePlaces
+mod BoundedWalk
+mod DistanceOf
+mod Faced
+mod IsPotential
+mod IsReach
+mod IsSearch
+mod ListedRoads
+mod Lists
+mod Reversed
+mod NewSearch
+mod Offers
+mod SettledSearch
+mod WalkBack

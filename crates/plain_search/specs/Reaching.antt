@@ -1,8 +1,10 @@
-use Rattle.std.specs.Prelude.{◌≡◌, ℕ, zero, suc, ◌+◌, ◌-◌, ◌^◌, ◌<◌, ◌≤◌, ◌==◌, cond, List, [], ◌∷◌, map, reverse, Option, Some, None, slice_get, refl}
+use Rattle.std.specs.Prelude.{◌≡◌, ℕ, zero, suc, ◌+◌, ◌-◌, ◌<◌, ◌≤◌, ◌==◌, cond, List, [], ◌∷◌, map, reverse, Option, Some, None, slice_get, refl}
 use Rattle.std.specs.List.Sorted.{IsNonDecreasingBy}
 use Rattle.road_graph.specs.declared.road.NodeNo.{NodeNo}
+use Rattle.road_graph.specs.Limits.{far}
 use Rattle.road_graph.specs.Roads.{Roads, IsNode, least_weight, node}
 use Rattle.road_graph.specs.Graphs.{IsGraph}
+use Rattle.road_graph.specs.Reads.{roads_out, roads_into, read_along}
 use Rattle.road_graph.specs.Paths.{Path}
 use Rattle.road_graph.specs.Walks.{IsWalk, IsDist, IsSimple, IsLeastWalk}
 use Rattle.plain_search.specs.declared.reached.Way.{Way}
@@ -39,7 +41,7 @@ weight_by To g parent n = least_weight g.roads n parent
 -- a radius that a search takes
 abbrev pub IsRadius : Option ℕ → Type 0
 IsRadius None = Unit {0}
-IsRadius (Some radius) = radius ≤ 2 ^ 53 - 2
+IsRadius (Some radius) = radius ≤ far - 2
 
 -- with no radius all is inside
 abbrev pub IsInside : Option ℕ → ℕ → Type 0
@@ -58,6 +60,19 @@ IsBeyond way g start radius n = (nodes : List NodeNo) (x : ℕ) → IsWalkBy way
 abbrev pub distance_of : List Reached → NodeNo → Option ℕ
 distance_of [] n = None
 distance_of (r ∷ rs) n = cond (r.node.0 == n.0) (Some r.distance) (distance_of rs n)
+
+abbrev pub nodes_of : List Reached → List NodeNo
+nodes_of listed = map (λ (r : Reached). r.node) listed
+
+-- how many roads a search follows from nodes
+abbrev pub roads_by : Way → Roads → List NodeNo → ℕ
+roads_by From g nodes = roads_out g nodes
+roads_by To g nodes = roads_into g nodes
+
+-- the nodes of a walk, none where there is none
+abbrev pub nodes_found : Option Path → List NodeNo
+nodes_found None = []
+nodes_found (Some w) = w.nodes
 
 -- the node stands at this place of the list
 abbrev pub StandsAt : List Reached → NodeNo → ℕ → Type 0
@@ -85,7 +100,7 @@ pub record AreReached (g : Roads) (s : Listing) : Type 0 where
   pub start : IsNode g s.start
   pub exact : (n : NodeNo) (x : ℕ) → distance_of s.listed n ≡ Some x → IsDistBy s.way g s.start n x
   pub each : (k : ℕ) (r : Reached) → slice_get s.listed k ≡ Some r → distance_of s.listed r.node ≡ Some r.distance
-  pub once : IsSimple (map (λ (r : Reached). r.node) s.listed)
+  pub once : IsSimple (nodes_of s.listed)
   pub rising : IsNonDecreasingBy (λ (r : Reached). r.distance) s.listed
   pub back : (k : ℕ) (r : Reached) → slice_get s.listed k ≡ Some r → HasWayBack s.way g s.start s.listed k r
 
@@ -94,6 +109,12 @@ pub record IsReach (g : Roads) (s : Listing) : Type 0 where
   pub reached : AreReached g s
   pub within : (n : NodeNo) (x : ℕ) → distance_of s.listed n ≡ Some x → IsInside s.radius x
   pub others : (n : NodeNo) → distance_of s.listed n ≡ None → IsBeyond s.way g s.start s.radius n
+
+-- each road into a node that was listed is read once, and those out of the nodes of the walk that was found
+pub record AreWalkReads (g : Roads) (to : NodeNo) (found : Option Path) (old new : ℕ) : Type 0 where
+  pub listed : List Reached
+  pub reached : AreReached g (record { way = To; start = to; radius = None; listed = listed })
+  pub reads : new ≡ old + (roads_into g (nodes_of listed) + read_along g (nodes_found found))
 
 -- a least walk between the start and a node, in the way of the search
 abbrev pub IsLeastWalkBy : Way → Roads → NodeNo → NodeNo → Path → Type 0

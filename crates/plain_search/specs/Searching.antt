@@ -12,8 +12,8 @@ use Rattle.plain_search.specs.declared.reached.Mark.{Mark}
 use Rattle.plain_search.specs.declared.reached.Mark.TheVariants.{Seen, Settled}
 use Rattle.plain_search.specs.declared.search.Search.{Search}
 use Rattle.plain_search.specs.Marking.{mark_of, ArePlaces}
-use Rattle.plain_search.specs.Reaching.{IsInside, IsOutside, HasWayBack}
-use Rattle.plain_search.specs.Turning.{turned}
+use Rattle.plain_search.specs.Reaching.{IsInside, IsOutside, HasWayBack, nodes_of, roads_by}
+use Rattle.road_graph.specs.Turned.{turned}
 
 -- the graph in which a search goes to its start
 abbrev pub faced : Way → Roads → Roads
@@ -119,3 +119,14 @@ pub record IsSameSearch (old new : Search) : Type 0 where
 pub record HasOneMore (old new : Search) : Type 0 where
   pub node : Reached
   pub is : new.reached ≡ old.reached ++ node ∷ []
+
+-- how many roads a search followed from the nodes that it listed
+abbrev pub listed_roads : Way → Roads → Search → ℕ
+listed_roads way g s = roads_by way g (nodes_of s.reached)
+
+-- a count rose by the roads of the nodes that were listed, or by no more than the graph's roads leave
+abbrev pub ReadsListed : Way → Roads → Search → Search → ℕ → ℕ → Type 0
+ReadsListed way g old new before after = after + listed_roads way g old ≡ before + listed_roads way g new
+
+abbrev pub ReadsNoMore : Way → Roads → Search → ℕ → ℕ → Type 0
+ReadsNoMore way g old before after = after + listed_roads way g old ≤ before + length g.roads

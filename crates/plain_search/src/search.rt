@@ -3,7 +3,7 @@ ghost use Rattle.road_graph.specs.Roads.{Roads, IsNode, ins};
 ghost use Rattle.plain_search.specs.declared.reached.Reached.{Reached as ReachedNode};
 ghost use Rattle.plain_search.specs.declared.reached.Mark.TheVariants.{Seen, Settled};
 ghost use Rattle.plain_search.specs.Reaching.{IsInside};
-ghost use Rattle.plain_search.specs.Searching.{faced, reached_by, IsSearch, IsSearchOf, IsSettled, AllOffered, AllOfferedIn, AreOffered, Offers, IsKnownBy, IsNewBy, IsSameSearch, HasOneMore};
+ghost use Rattle.plain_search.specs.Searching.{faced, reached_by, IsSearch, IsSearchOf, IsSettled, AllOffered, AllOfferedIn, AreOffered, Offers, IsKnownBy, IsNewBy, IsSameSearch, HasOneMore, ReadsListed, ReadsNoMore};
 
 use crate::nearest::{Candidate, Nearest};
 use crate::reached::{Mark, Reached, Way};
@@ -55,7 +55,7 @@ impl Search {
         })
     }
 
-    /// Settles the nearest node that waits. False where none is left.
+    /// Settles the nearest node that waits, and reads each of its roads once. False where none is left.
     pub(crate) fn settle_nearest<L>(
         &mut self,
         graph: &Graph,
@@ -67,7 +67,9 @@ impl Search {
         ensures search { IfOk result (λ _. IsSearchOf (faced self.old.way graph.now) self.new) }
         ensures offered { IfOk result (λ _. AllOfferedIn (faced self.old.way graph.now) self.new) }
         ensures more { IfOk result (λ found. MatchBool found (HasOneMore self.old self.new) ((self.new.waiting ≡ []) × (self.new.reached ≡ self.old.reached))) }
-        ensures steps { steps.old.0 ≤ steps.new.0 }
+        ensures steps { IfOk result (λ _. ReadsListed self.old.way graph.now self.old self.new steps.old.0 steps.new.0) }
+        ensures least { steps.old.0 ≤ steps.new.0 }
+        ensures most { ReadsNoMore self.old.way graph.now self.old steps.old.0 steps.new.0 }
         ensures asks { steps.new.1 ≡ steps.old.1 }
     {
         while let Some(nearest) = self.waiting.pop() {
@@ -94,7 +96,9 @@ impl Search {
         ensures search { IfOk result (λ _. IsSearchOf (faced self.old.way graph.now) self.new) }
         ensures offered { IfOk result (λ _. AllOfferedIn (faced self.old.way graph.now) self.new) }
         ensures ends { IfOk result (λ _. IsSettled self.new.marks.items node ⊎ (self.new.waiting ≡ [])) }
-        ensures steps { steps.old.0 ≤ steps.new.0 }
+        ensures steps { IfOk result (λ _. ReadsListed self.old.way graph.now self.old self.new steps.old.0 steps.new.0) }
+        ensures least { steps.old.0 ≤ steps.new.0 }
+        ensures most { ReadsNoMore self.old.way graph.now self.old steps.old.0 steps.new.0 }
         ensures asks { steps.new.1 ≡ steps.old.1 }
     {
         'settling: while self.settle_nearest(graph, steps)? {
@@ -138,7 +142,9 @@ impl Search {
         ensures reached { IfOk result (λ _. self.new.reached ≡ self.old.reached) }
         ensures search { IfOk result (λ _. IsSearchOf (faced self.old.way graph.now) self.new) }
         ensures offered { IfOk result (λ _. AllOfferedIn (faced self.old.way graph.now) self.new) }
-        ensures steps { steps.old.0 ≤ steps.new.0 }
+        ensures steps { IfOk result (λ _. steps.new.0 ≡ steps.old.0 + length (ins (faced self.old.way graph.now) last.node)) }
+        ensures least { steps.old.0 ≤ steps.new.0 }
+        ensures most { steps.new.0 ≤ steps.old.0 + length (ins (faced self.old.way graph.now) last.node) }
         ensures asks { steps.new.1 ≡ steps.old.1 }
     {
         for index in 0..road_count(graph, self.way, last.node) {

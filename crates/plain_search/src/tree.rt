@@ -1,8 +1,9 @@
-ghost use Rattle.std.specs.Prelude.{◌≡◌, ℕ, suc, ◌+◌, ◌-◌, ◌^◌, ◌<◌, ◌≤◌, List, [], length, IfOk, IfSome, MatchOption, None, Some, slice_get};
+ghost use Rattle.std.specs.Prelude.{◌≡◌, ℕ, suc, ◌+◌, ◌-◌, ◌*◌, ◌^◌, ◌<◌, ◌≤◌, List, [], length, IfOk, IfSome, MatchOption, None, Some, slice_get};
 ghost use Rattle.road_graph.specs.Roads.{Roads, IsNode};
 ghost use Rattle.road_graph.specs.Walks.{NoWalk, IsLeastWalk};
+ghost use Rattle.road_graph.specs.Reads.{roads_out, roads_into, read_along};
 ghost use Rattle.plain_search.specs.declared.reached.Reached.{Reached as ReachedNode};
-ghost use Rattle.plain_search.specs.Reaching.{IsReach, AreReached, IsBeyond, IsDistBy, IsInside, IsLeastWalkBy, IsRadius, StandsAt, distance_of, in_way};
+ghost use Rattle.plain_search.specs.Reaching.{IsReach, AreReached, IsBeyond, IsDistBy, IsInside, IsLeastWalkBy, IsRadius, StandsAt, distance_of, in_way, nodes_of, nodes_found, roads_by, AreWalkReads};
 ghost use Rattle.plain_search.specs.declared.reached.Mark.TheVariants.{Settled};
 ghost use Rattle.plain_search.specs.Marking.{ArePlaces, mark_of};
 ghost use Rattle.plain_search.specs.Valuing.{IsPotential, IsRising, listed_value};
@@ -38,7 +39,7 @@ impl Model for Reach {
     ghost invariant = { λ r. ArePlaces r.listed r.marks.items × IsRadius r.radius };
 }
 
-/// The nodes within a radius from a node, or all that it reaches.
+/// The nodes within a radius from a node, or all that it reaches. It reads each road out of them once, and counts it.
 pub fn reach_from<L>(
     alloc: Global,
     graph: &Graph,
@@ -50,13 +51,15 @@ pub fn reach_from<L>(
     requires radius { IsRadius radius }
     ensures asked { IfOk result (λ r. (r.way ≡ Way.From) × (r.start ≡ from) × (r.radius ≡ radius)) }
     ensures exact { IfOk result (IsReach graph.now) }
-    ensures steps { steps.old.0 ≤ steps.new.0 }
+    ensures steps { IfOk result (λ r. steps.new.0 ≡ steps.old.0 + roads_out graph.now (nodes_of r.listed)) }
+    ensures least { steps.old.0 ≤ steps.new.0 }
+    ensures most { steps.new.0 ≤ steps.old.0 + length graph.now.roads }
     ensures asks { steps.new.1 ≡ steps.old.1 }
 {
     search_all(alloc, graph, Way::From, from, radius, steps)
 }
 
-/// The nodes from which a node is within a radius, or all that reach it.
+/// The nodes from which a node is within a radius, or all that reach it. It reads each road into them once, and counts it.
 pub fn reach_to<L>(
     alloc: Global,
     graph: &Graph,
@@ -68,13 +71,16 @@ pub fn reach_to<L>(
     requires radius { IsRadius radius }
     ensures asked { IfOk result (λ r. (r.way ≡ Way.To) × (r.start ≡ to) × (r.radius ≡ radius)) }
     ensures exact { IfOk result (IsReach graph.now) }
-    ensures steps { steps.old.0 ≤ steps.new.0 }
+    ensures steps { IfOk result (λ r. steps.new.0 ≡ steps.old.0 + roads_into graph.now (nodes_of r.listed)) }
+    ensures least { steps.old.0 ≤ steps.new.0 }
+    ensures most { steps.new.0 ≤ steps.old.0 + length graph.now.roads }
     ensures asks { steps.new.1 ≡ steps.old.1 }
 {
     search_all(alloc, graph, Way::To, to, radius, steps)
 }
 
-/// A least walk from one node to another without a repeated node. None where there is no walk.
+/// A least walk from one node to another without a repeated node. None where there is no walk. It reads each road into the nodes from
+/// which it looks once, and then those out of the nodes of the walk but the last, and counts them.
 pub fn least_walk<L>(
     alloc: Global,
     graph: &Graph,
@@ -85,7 +91,9 @@ pub fn least_walk<L>(
     requires from { IsNode graph.now from }
     requires to { IsNode graph.now to }
     ensures walk { IfOk result (λ found. MatchOption found (NoWalk graph.now from to) (IsLeastWalk graph.now from to)) }
-    ensures steps { steps.old.0 ≤ steps.new.0 }
+    ensures steps { IfOk result (λ found. AreWalkReads graph.now to found steps.old.0 steps.new.0) }
+    ensures least { steps.old.0 ≤ steps.new.0 }
+    ensures most { steps.new.0 ≤ steps.old.0 + 2 * length graph.now.roads }
     ensures asks { steps.new.1 ≡ steps.old.1 }
 {
     let mut search = Search::new(alloc, graph, Way::To, to, None)?;
@@ -105,7 +113,9 @@ fn search_all<L>(
     requires radius { IsRadius radius }
     ensures asked { IfOk result (λ r. (r.way ≡ way) × (r.start ≡ start) × (r.radius ≡ radius)) }
     ensures exact { IfOk result (IsReach graph.now) }
-    ensures steps { steps.old.0 ≤ steps.new.0 }
+    ensures steps { IfOk result (λ r. steps.new.0 ≡ steps.old.0 + roads_by way graph.now (nodes_of r.listed)) }
+    ensures least { steps.old.0 ≤ steps.new.0 }
+    ensures most { steps.new.0 ≤ steps.old.0 + length graph.now.roads }
     ensures asks { steps.new.1 ≡ steps.old.1 }
 {
     let mut search = Search::new(alloc, graph, way, start, radius)?;
@@ -130,7 +140,8 @@ impl Reach {
         Some(self.listed.as_slice()[place].distance)
     }
 
-    /// A least walk between the start and a node, in the way of the search. None where the node isn't listed.
+    /// A least walk between the start and a node, in the way of the search. None where the node isn't listed. It counts the roads out of
+    /// the nodes of the walk but the last.
     pub fn walk<L>(
         &self,
         alloc: Global,
@@ -140,7 +151,9 @@ impl Reach {
     ) -> Result<Option<Walk>, NoMemory>
         requires { IsReach graph.now self.now }
         ensures walk { IfOk result (λ found. MatchOption found (IsBeyond self.now.way graph.now self.now.start self.now.radius node) (IsLeastWalkBy self.now.way graph.now self.now.start node)) }
-        ensures steps { steps.old.0 ≤ steps.new.0 }
+        ensures steps { IfOk result (λ found. steps.new.0 ≡ steps.old.0 + read_along graph.now (nodes_found found)) }
+        ensures least { steps.old.0 ≤ steps.new.0 }
+        ensures most { steps.new.0 ≤ steps.old.0 + length graph.now.roads }
         ensures asks { steps.new.1 ≡ steps.old.1 }
     {
         self.walk_back(alloc, graph, node, steps)
@@ -197,7 +210,9 @@ impl Reach {
     ) -> Result<Option<Walk>, NoMemory>
         requires { AreReached graph.now self.now }
         ensures walk { IfOk result (λ found. MatchOption found (distance_of self.now.listed node ≡ None) (IsLeastWalkBy self.now.way graph.now self.now.start node)) }
-        ensures steps { steps.old.0 ≤ steps.new.0 }
+        ensures steps { IfOk result (λ found. steps.new.0 ≡ steps.old.0 + read_along graph.now (nodes_found found)) }
+        ensures least { steps.old.0 ≤ steps.new.0 }
+        ensures most { steps.new.0 ≤ steps.old.0 + length graph.now.roads }
         ensures asks { steps.new.1 ≡ steps.old.1 }
     {
         let mut nodes = Vec::new(alloc);

@@ -1,6 +1,14 @@
-pub mod Walking
-pub mod Sums
-pub mod Ends
-pub mod Offsetting
-pub mod Rowing
-pub mod Laws
+mod Ghosts
+mod WalkLength
+mod RoadEnds
+mod AreOffsets
+mod AreRows
+mod IsPath
+mod IsWalk
+mod IsSimple
+mod LeastWeight
+mod IsDist
+mod IsLeastWalk
+mod Turned
+mod RoadCounts
+pub mod WalkLaws

@@ -2,7 +2,8 @@ use Rattle.std.specs.Prelude.{◌≡◌, ℕ, not, ◌&&◌, nat_le, cond, List,
 use Rattle.road_graph.specs.declared.road.Road.{Road}
 use Rattle.road_graph.specs.declared.graph.BuildFault.{BuildFault}
 use Rattle.road_graph.specs.declared.graph.BuildFault.TheVariants.{Large, Node, NoMemory}
-use Rattle.road_graph.specs.Roads.{is_within, most_nodes, most_roads, example}
+use Rattle.road_graph.specs.Roads.{is_within, example}
+use Rattle.road_graph.specs.Limits.{most_nodes, most_roads}
 
 -- the first road with an end that is none of so many nodes
 abbrev pub first_outside : ℕ → List Road → Option ℕ
@@ -25,8 +26,8 @@ IsCause wrong (Node k) = wrong ≡ Some (Node k)
 none_wrong : fault_in 4 example.roads ≡ None
 none_wrong = refl
 
-third_outside : fault_in 2 example.roads ≡ Some (Node 3)
-third_outside = refl
+fourth_outside : fault_in 2 example.roads ≡ Some (Node 3)
+fourth_outside = refl
 
 too_many : fault_in 2097153 example.roads ≡ Some Large
 too_many = refl

@@ -1,6 +1,7 @@
 use Rattle.std.specs.Prelude.{◌≡◌, ℕ, ◌<◌, ◌≤◌, ◌^◌, length, slice_get, Some}
 use Rattle.road_graph.specs.declared.road.Road.{Road}
-use Rattle.road_graph.specs.Roads.{Roads, IsNode, most_nodes, most_roads}
+use Rattle.road_graph.specs.Roads.{Roads, IsNode}
+use Rattle.road_graph.specs.Limits.{most_nodes, most_roads}
 
 -- the road leads from a node of the graph to a node of the graph, and its weight fits 32 bits
 pub record IsRoadOf (g : Roads) (road : Road) : Type 0 where

@@ -1,8 +1,12 @@
+pub mod Limits
 pub mod Roads
 pub mod Paths
 pub mod Walks
 pub mod Graphs
 pub mod Faults
 pub mod Listing
-pub mod Measured
+pub mod Offsets
 pub mod Rows
+pub mod Reads
+pub mod Turned
+pub mod WalkLaws

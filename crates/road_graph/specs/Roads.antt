@@ -7,12 +7,6 @@ pub record Roads : Type 0 where
   pub nodes : ℕ
   pub roads : List Road
 
-abbrev pub most_nodes : ℕ
-most_nodes = 2097152
-
-abbrev pub most_roads : ℕ
-most_roads = 8388608
-
 -- n is one of so many nodes
 abbrev pub is_node : ℕ → NodeNo → Bool
 is_node nodes n = nat_le 1 n.0 && nat_le n.0 nodes

@@ -43,9 +43,12 @@ pub record IsMeasured (g : Roads) (w : Path) : Type 0 where
   pub whole : walk_length g w.nodes ≡ Some (length_of w)
   pub each : (k : ℕ) → k < length w.nodes → walk_length g (take (suc k) w.nodes) ≡ Some (slice_index w.offsets k)
 
+abbrev pub numbers : List NodeNo → List ℕ
+numbers nodes = map (λ (n : NodeNo). n.0) nodes
+
 -- no node stands twice
 abbrev pub IsSimple : List NodeNo → Type 0
-IsSimple nodes = IsDistinct nat_eq (map (λ (n : NodeNo). n.0) nodes)
+IsSimple nodes = IsDistinct nat_eq (numbers nodes)
 
 -- a walk of least length from u to v without a repeated node
 pub record IsLeastWalk (g : Roads) (u v : NodeNo) (w : Path) : Type 0 where

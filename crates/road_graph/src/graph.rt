@@ -1,23 +1,20 @@
 ghost use Rattle.std.specs.Prelude.{◌≡◌, ℕ, ◌+◌, ◌<◌, ◌≤◌, ◌^◌, ◌==◌, List, length, filter, IfOk, IfNone, OnOk, MatchResult, slice_get, Some, None, not};
-ghost use Rattle.road_graph.specs.Roads.{IsNode, is_node, outs, ins, least_weight, lighter_of, is_within, most_roads};
+ghost use Rattle.road_graph.specs.Roads.{IsNode, is_node, outs, ins, least_weight, lighter_of, is_within};
+ghost use Rattle.road_graph.specs.Limits.{most_roads};
 ghost use Rattle.road_graph.specs.Walks.{walk_length as length_as_walk};
+ghost use Rattle.road_graph.specs.Reads.{read_along};
 ghost use Rattle.road_graph.specs.Faults.{fault_in, first_outside, IsCause};
 ghost use Rattle.road_graph.specs.Graphs.{IsGraph, AreRoadsOf};
 ghost use Rattle.road_graph.specs.Listing.{least_in};
 
+use crate::limits::{MOST_NODES, MOST_ROADS};
 use crate::road::{NodeNo, Road};
+use crate::road_list::RoadList;
 use crate::rows::{Rows, Way};
 use crate::steps::Steps;
-use crate::told::Told;
 use ride_base::NoMemory;
 use std::alloc::Global;
 use std::marker::Model;
-
-/// The most nodes that a graph may have.
-const MOST_NODES: u32 = 2_097_152;
-
-/// The most roads that a graph may have.
-const MOST_ROADS: usize = 8_388_608;
 
 /// Why no graph was built of a list of roads. Nothing of it is kept.
 #[derive(Debug, Clone, Copy, PartialEq, Eq)]
@@ -48,7 +45,7 @@ impl From<NoMemory> for BuildFault {
 pub struct Graph {
     nodes: u32,
     /// The roads in the order in which they were given, for contracts alone.
-    told: Told,
+    listed: RoadList,
     outs: Rows,
     ins: Rows,
 }
@@ -59,9 +56,9 @@ impl Model for Graph {
 
     ghost Value = { Roads };
 
-    ghost view = { λ g. record { nodes = g.nodes; roads = g.told.roads } };
+    ghost view = { λ g. record { nodes = g.nodes; roads = g.listed.roads } };
 
-    ghost invariant = { λ g. IsRowed (record { nodes = g.nodes; roads = g.told.roads }) g.outs g.ins };
+    ghost invariant = { λ g. IsRowed (record { nodes = g.nodes; roads = g.listed.roads }) g.outs g.ins };
 }
 
 impl Graph {
@@ -77,7 +74,7 @@ impl Graph {
         let ins = Rows::sorted(alloc, Way::In, n, roads)?;
         Ok(Graph {
             nodes: n,
-            told: Told::of(roads),
+            listed: RoadList::of(roads),
             outs,
             ins,
         })
@@ -100,7 +97,7 @@ impl Graph {
     }
 
     /// Whether it is one of the nodes: its number is 1 to the number of nodes.
-    pub(crate) fn has(&self, node: NodeNo) -> bool
+    pub fn has(&self, node: NodeNo) -> bool
         ensures node { result ≡ is_node self.now.nodes node }
         ensures kept { IsGraph self.now }
     {
@@ -187,12 +184,12 @@ impl Graph {
 
     /// The length of a list of nodes as a walk, in the graph's weight units, where it is one: each node but the last is joined to the
     /// next, and the length is the sum of the least weights of their roads. One node of the graph is a walk of length 0, and no nodes
-    /// are none. At most 4,194,304 nodes. It counts the roads that it reads.
+    /// are none. At most 4,194,304 nodes. It counts the roads out of each node but the last, up to the first that isn't joined to the
+    /// next.
     pub fn walk_length<L>(&self, nodes: &[NodeNo], steps: &mut Steps<L>) -> Option<u64>
         requires { length nodes.now ≤ 4194304 }
         ensures length { result ≡ length_as_walk self.now nodes.now }
-        ensures asks { steps.new.1 ≡ steps.old.1 }
-        ensures steps { steps.old.0 ≤ steps.new.0 }
+        ensures steps { steps.new ≡ (steps.old.0 + read_along self.now nodes.now, steps.old.1) }
     {
         let (first, rest) = nodes.split_first()?;
         let mut here = *first;

@@ -8,21 +8,21 @@ use std::thread::Threads;
 /// Nothing in memory holds the number. It means how often `raise` was called because `new` and `raise`, which
 /// are proved by hand, are all that makes or changes it: no other proof by hand may touch it.
 #[derive(Drop)]
-struct Tally {
+struct GhostCount {
     ghost total: { ℕ },
 }
 
-impl Model for Tally {
+impl Model for GhostCount {
     ghost use base.Fml.{ftrue};
 
     ghost also_owns = { λ t. ftrue };
 }
 
-impl Tally {
-    fn new() -> Tally
+impl GhostCount {
+    fn new() -> GhostCount
         ensures { result.total ≡ 0 }
     {
-        Tally {}
+        GhostCount {}
     }
 
     fn raise(&mut self, by: usize)
@@ -37,8 +37,8 @@ impl Tally {
 #[derive(Drop)]
 pub struct Steps<L> {
     ledger: L,
-    steps: Tally,
-    asks: Tally,
+    steps: GhostCount,
+    asks: GhostCount,
 }
 
 impl<L> Model for Steps<L> {
@@ -54,8 +54,8 @@ impl<L> Steps<L> {
     {
         Steps {
             ledger,
-            steps: Tally::new(),
-            asks: Tally::new(),
+            steps: GhostCount::new(),
+            asks: GhostCount::new(),
         }
     }
 

@@ -1,7 +1,8 @@
 ghost use Rattle.std.specs.Prelude.{◌≡◌, ℕ, ◌+◌, ◌-◌, ◌<◌, ◌≤◌, List, [], length, IfOk, MatchOption, slice_index, Some, None};
 ghost use Rattle.road_graph.specs.Paths.{Path, length_of, IsPath};
 ghost use Rattle.road_graph.specs.Walks.{walk_length, IsMeasured};
-ghost use Rattle.road_graph.specs.Measured.{AreOffsets};
+ghost use Rattle.road_graph.specs.Reads.{read_along};
+ghost use Rattle.road_graph.specs.Offsets.{AreOffsets};
 
 use crate::graph::Graph;
 use crate::road::NodeNo;
@@ -34,7 +35,8 @@ impl Model for Walk {
 
 impl Walk {
     /// The nodes as a walk of the graph; none where they are no walk of it, as where there are none. Of parallel roads it takes the
-    /// least weight. At most 4,194,304 nodes. It counts the roads that it reads, also where memory ends; nothing else is left then.
+    /// least weight. At most 4,194,304 nodes. It counts the roads out of each node but the last, up to the first that isn't joined to
+    /// the next, and no more of them where memory ends; nothing else is left then.
     pub fn made<L>(
         alloc: Global,
         graph: &Graph,
@@ -43,8 +45,10 @@ impl Walk {
     ) -> Result<Option<Walk>, NoMemory>
         requires { length nodes.now ≤ 4194304 }
         ensures walk { IfOk result (λ made. MatchOption made (walk_length graph.now nodes.now ≡ None) (λ w. (w.nodes ≡ nodes.now) × IsMeasured graph.now w)) }
+        ensures steps { IfOk result (λ _. steps.new ≡ (steps.old.0 + read_along graph.now nodes.now, steps.old.1)) }
+        ensures least { steps.old.0 ≤ steps.new.0 }
+        ensures most { steps.new.0 ≤ steps.old.0 + read_along graph.now nodes.now }
         ensures asks { steps.new.1 ≡ steps.old.1 }
-        ensures steps { steps.old.0 ≤ steps.new.0 }
     {
         let Some(offsets) = offsets_of(alloc, graph, nodes, steps)? else {
             return Ok(None);
@@ -114,8 +118,10 @@ fn offsets_of<L>(
 ) -> Result<Option<Short<u64>>, NoMemory>
     requires { length nodes.now ≤ 4194304 }
     ensures offsets { IfOk result (λ made. MatchOption made (walk_length graph.now nodes.now ≡ None) (λ offsets. AreOffsets graph.now nodes.now offsets)) }
+    ensures steps { IfOk result (λ _. steps.new ≡ (steps.old.0 + read_along graph.now nodes.now, steps.old.1)) }
+    ensures least { steps.old.0 ≤ steps.new.0 }
+    ensures most { steps.new.0 ≤ steps.old.0 + read_along graph.now nodes.now }
     ensures asks { steps.new.1 ≡ steps.old.1 }
-    ensures steps { steps.old.0 ≤ steps.new.0 }
 {
     let Some((first, rest)) = nodes.split_first() else {
         return Ok(None);

@@ -1,6 +1,6 @@
 use Rattle.std.proofs.Common.{refl}
 use Rattle.dimacs_reader.specs.Graphs.{graph_in}
-use Rattle.dimacs_reader.proofs.Undecided.{whole_unread, over_unread, handed}
+use Rattle.dimacs_reader.proofs.IsUndecided.{whole_unread, over_unread, handed}
 use Rattle.dimacs_reader.proofs.graphs.read_graph.Goals as goal
 
 pub returns-in_err-said-clause-unread : goal.returns-in_err-said-clause-unread

@@ -1,11 +1,10 @@
-use Rattle.std.proofs.Common.{◌≡◌, List, ℕ, ◌≤◌, length, true, None}
+use Rattle.std.proofs.Common.{◌≡◌, ◌≤◌, length, true, None}
 use Rattle.std.specs.List.{list_all}
-use Rattle.ride_base.specs.Outside.{OnlyRead}
+use Rattle.ride_base.specs.Outside.{CountStays, OnlyRead}
 use Rattle.ride_base.specs.Told.{ahead}
 use Rattle.road_graph.specs.Roads.{is_within}
-use Rattle.dimacs_reader.specs.Reading.{roads_ahead}
-use Rattle.dimacs_reader.specs.Refusals.{IsReadFrom}
-use Rattle.dimacs_reader.proofs.Roading.{roads_said}
+use Rattle.dimacs_reader.specs.Calls.{StaysReadFrom, said_roads}
+use Rattle.dimacs_reader.proofs.RoadLines.{roads_said}
 use Rattle.dimacs_reader.proofs.graphs.read_roads.Given as goal
 
 abbrev pub invariant-loop-roads : goal.invariant-loop-roads
@@ -13,10 +12,11 @@ invariant-loop-roads g l =
     let S = g.S.Shelf in
     record {
       shelf : OnlyRead S.IsBegun S.held S.names S.IsSure S.faults l.fn.shelf l.shelf;
-      same : roads_said l.said.nodes l.said.roads l.roads l.lines.given (ahead l.lines (S.left l.shelf)) ≡ roads_ahead l.said.nodes l.said.roads 0 l.fn.lines.given (ahead l.fn.lines (S.left l.fn.shelf));
+      quiet : S.IsQuiet → CountStays S.faults l.fn.shelf l.shelf;
+      same : roads_said l.said.nodes l.said.roads l.roads l.lines.given (ahead l.lines (S.left l.shelf)) ≡ said_roads l.said l.fn.lines (S.left l.fn.shelf);
       few : length l.roads ≤ l.said.roads;
       within : list_all (is_within l.said.nodes) l.roads ≡ true;
-      goes : (text : List ℕ) → IsReadFrom text l.fn.lines (S.left l.fn.shelf) → IsReadFrom text l.lines (S.left l.shelf);
+      goes : StaysReadFrom S.left l.fn.lines l.fn.shelf l.lines l.shelf;
       unstopped : l.lines.stopped ≡ None;
     }
 

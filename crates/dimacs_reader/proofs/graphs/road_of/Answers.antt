@@ -2,7 +2,7 @@ use Rattle.std.proofs.Common.{◌≡◌, ◌<◌, ◌∙◌, rules, arith}
 use Rattle.dimacs_reader.specs.declared.forms.GraphLine.TheVariants.{Arc}
 use Rattle.dimacs_reader.specs.Forms.{graph_line}
 use Rattle.dimacs_reader.specs.Reading.{read_graph_line}
-use Rattle.dimacs_reader.proofs.Roading.{arc_says}
+use Rattle.dimacs_reader.proofs.RoadLines.{arc_says}
 use Rattle.dimacs_reader.proofs.graphs.road_of.Goals as goal
 
 pub returns-in_err-road-in-Arc-clause-says : goal.returns-in_err-road-in-Arc-clause-says

@@ -1,7 +1,7 @@
 use Rattle.std.proofs.Common.{rules}
-use Rattle.ride_base.proofs.Shelves.{only_read-trans}
+use Rattle.ride_base.proofs.ShelfLaws.{only_read-trans}
 use Rattle.dimacs_reader.specs.Places.{places_in}
-use Rattle.dimacs_reader.proofs.Undecided.{ahead_unread, handed, late_places}
+use Rattle.dimacs_reader.proofs.IsUndecided.{ahead_unread, handed, late_places}
 use Rattle.dimacs_reader.proofs.places.read_header.Goals as goal
 
 pub returns-in_err-read_line-clause-unread : goal.returns-in_err-read_line-clause-unread
@@ -14,6 +14,7 @@ returns-then-branch-2-clause-goes g c = λ _ text read. c.read_line.ensures.goes
 pub loop-line-preserved : goal.loop-line-preserved
 loop-line-preserved g c = record {
   shelf = only_read-trans c.loop-line.invariant.shelf c.read_line.ensures.shelf;
+  quiet = search rules;
   same = search rules;
   goes = λ text read. c.read_line.ensures.goes (search rules) text (c.loop-line.invariant.goes text read);
   unstopped = search rules;

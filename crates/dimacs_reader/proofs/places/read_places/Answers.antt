@@ -1,6 +1,6 @@
 use Rattle.std.proofs.Common.{refl}
 use Rattle.dimacs_reader.specs.Places.{places_in}
-use Rattle.dimacs_reader.proofs.Undecided.{whole_unread, handed}
+use Rattle.dimacs_reader.proofs.IsUndecided.{whole_unread, handed}
 use Rattle.dimacs_reader.proofs.places.read_places.Goals as goal
 
 pub returns-in_err-read_header-clause-unread : goal.returns-in_err-read_header-clause-unread

@@ -1,4 +1,4 @@
-use Rattle.plain_search.proofs.Finishing.{falls, finished_after}
+use Rattle.plain_search.proofs.IsReach.{falls, finished_after}
 use Rattle.plain_search.proofs.tree.search_all.Goals as goal
 
 pub settling-smaller : goal.settling-smaller

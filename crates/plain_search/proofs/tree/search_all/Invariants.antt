@@ -1,5 +1,5 @@
-use Rattle.std.proofs.Common.{◌≡◌, ◌+◌, ◌-◌, ◌≤◌, length}
-use Rattle.plain_search.specs.Searching.{faced, IsSearchOf, AllOfferedIn}
+use Rattle.std.proofs.Common.{◌≡◌, ◌+◌, ◌-◌, length}
+use Rattle.plain_search.specs.Searching.{faced, IsSearchOf, AllOfferedIn, listed_roads}
 use Rattle.plain_search.proofs.tree.search_all.Given as goal
 
 abbrev pub invariant-settling : goal.invariant-settling
@@ -9,7 +9,7 @@ invariant-settling g l = record {
   radius : l.search.radius ≡ l.fn.radius;
   search : IsSearchOf (faced l.search.way l.graph) l.search;
   offered : AllOfferedIn (faced l.search.way l.graph) l.search;
-  steps : l.fn.steps.0 ≤ l.steps.0;
+  steps : l.steps.0 ≡ l.fn.steps.0 + listed_roads l.fn.way l.graph l.search;
   asks : l.steps.1 ≡ l.fn.steps.1;
 }
 

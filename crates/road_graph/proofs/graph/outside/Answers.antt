@@ -1,5 +1,5 @@
 use Rattle.std.proofs.Common.{sym}
-use Rattle.road_graph.proofs.Ends.{passed_more, found_outside, none_outside, all_roads_of}
+use Rattle.road_graph.proofs.RoadEnds.{passed_more, found_outside, none_outside, all_roads_of}
 use Rattle.road_graph.proofs.graph.outside.Goals as goal
 
 pub loop-at-preserved : goal.loop-at-preserved

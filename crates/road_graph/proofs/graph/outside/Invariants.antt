@@ -1,4 +1,4 @@
-use Rattle.road_graph.proofs.Ends.{Passed}
+use Rattle.road_graph.proofs.RoadEnds.{Passed}
 use Rattle.road_graph.proofs.graph.outside.Given as goal
 
 abbrev pub invariant-loop-at : goal.invariant-loop-at

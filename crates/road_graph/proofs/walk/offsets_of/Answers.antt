@@ -2,7 +2,8 @@ use Rattle.std.proofs.Common.{◌≡◌, ◌∙◌, ap, sym, refl, arith, ◌∷
 use Rattle.road_graph.specs.declared.road.NodeNo.{NodeNo}
 use Rattle.road_graph.specs.Roads.{least_weight}
 use Rattle.road_graph.specs.Walks.{walk_length}
-use Rattle.road_graph.proofs.Offsetting.{OffsetOf, offset_next, whole_next, none_from}
+use Rattle.road_graph.specs.Reads.{read_along}
+use Rattle.road_graph.proofs.AreOffsets.{OffsetOf, offset_next, whole_next, none_from, reads_next, reads_outside}
 use Rattle.road_graph.proofs.walk.offsets_of.Goals as goal
 
 pub loop-next-preserved : goal.loop-next-preserved
@@ -15,8 +16,9 @@ loop-next-preserved g c =
     record {
       whole = whole_next c.args.graph.now rest i c.loop-next.here _ zero c.loop-next.length _ _ c.loop-next-test.true refl weight c.loop-next.invariant.whole;
       small = omega (arith, c.loop-next.invariant.small);
+      steps = reads_next c.args.graph.now rest i c.loop-next.here _ zero c.loop-next.steps.0 c.joined.new.steps.0 _ _ c.loop-next-test.true refl weight (ap (λ s. s.0) c.joined.ensures.steps) c.loop-next.invariant.steps;
       asks = ap (λ s. s.1) c.joined.ensures.steps ∙ c.loop-next.invariant.asks;
-      steps = let old = c.loop-next.invariant.steps in let new = ap (λ s. s.0) c.joined.ensures.steps in omega arith;
+      least = let old = c.loop-next.invariant.least in let new = ap (λ s. s.0) c.joined.ensures.steps in omega arith;
       offset = subst (λ (offsets : List ℕ). OffsetOf c.args.graph.now c.args.nodes.now rest (i + 1) (get_or rest i zero) (c.loop-next.length + c.from-length.result) offsets) (sym push)
           (offset_next c.args.graph.now c.has.ensures.kept c.args.nodes.now rest i c.loop-next.here (get_or rest i zero) zero c.loop-next.length c.from-length.result c.loop-next.offsets c.loop-next-test.true refl weight c.loop-next.invariant.offset);
     }
@@ -26,3 +28,11 @@ returns-then-not-has-clause-offsets g c =
     let cases : c.args.nodes.now ≡ c.in-Some.first.now ∷ c.in-Some.rest.now = c.in-Some.ensures.cases.0 in
     let out = c.if-not-has.ensures.node in
     ap (λ (ns : List NodeNo). walk_length c.args.graph.now ns) cases ∙ none_from c.args.graph.now c.has.ensures.kept c.in-Some.first.now c.in-Some.rest.now (sym out)
+
+pub returns-then-not-has-clause-steps : goal.returns-then-not-has-clause-steps
+returns-then-not-has-clause-steps g c =
+    let cases : c.args.nodes.now ≡ c.in-Some.first.now ∷ c.in-Some.rest.now = c.in-Some.ensures.cases.0 in
+    let out = c.if-not-has.ensures.node in
+    let none : read_along c.args.graph.now c.args.nodes.now ≡ 0 = ap (read_along c.args.graph.now) cases ∙ reads_outside c.args.graph.now c.has.ensures.kept c.in-Some.first.now c.in-Some.rest.now (sym out) in
+    let same : c.args.steps.now.0 ≡ c.args.steps.now.0 + read_along c.args.graph.now c.args.nodes.now = omega arith in
+    ap (λ (n : ℕ). let counted : ℕ × ℕ = (n, c.args.steps.now.1) in counted) same

@@ -1,5 +1,5 @@
 use Rattle.std.proofs.Common.{ap, Ok, Err}
-use Rattle.dimacs_reader.proofs.Giving.{gives, one_given, none_given}
+use Rattle.dimacs_reader.proofs.GivesLine.{gives, one_given, none_given}
 use Rattle.dimacs_reader.proofs.lines.CountedLines.read_line.Goals as goal
 
 pub returns-in-Ok-clause-gives : goal.returns-in-Ok-clause-gives

@@ -1,5 +1,5 @@
 use Rattle.std.proofs.Common.{◌∙◌}
-use Rattle.dimacs_reader.proofs.Placing.{no_place}
+use Rattle.dimacs_reader.proofs.PlaceTable.{no_place}
 use Rattle.dimacs_reader.proofs.places.Coordinates.placing.Goals as goal
 
 pub returns-in_default-clause-says : goal.returns-in_default-clause-says

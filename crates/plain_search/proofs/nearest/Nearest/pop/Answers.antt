@@ -1,7 +1,7 @@
 use Rattle.std.specs.declared.cmp.Reverse.{Reverse}
 use Rattle.std.proofs.lemmas.List.Sorted.{IsPermutation-map}
 use Rattle.plain_search.specs.declared.nearest.Candidate.{Candidate}
-use Rattle.plain_search.proofs.Heap.{nearest_of}
+use Rattle.plain_search.proofs.Reversed.{nearest_of}
 use Rattle.plain_search.proofs.nearest.Nearest.pop.Goals as goal
 
 pub returns-clause-none : goal.returns-clause-none

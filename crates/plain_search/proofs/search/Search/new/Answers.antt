@@ -1,8 +1,8 @@
 use Rattle.std.proofs.Common.{sym, ap, ◌∙◌, ◌+◌, replicate}
 use Rattle.plain_search.specs.declared.reached.Mark.TheVariants.{Unseen}
 use Rattle.plain_search.specs.Searching.{faced}
-use Rattle.plain_search.proofs.Begins.{begun}
-use Rattle.plain_search.proofs.Facing.{nodes-faced, IsNode-faced, IsGraph-faced}
+use Rattle.plain_search.proofs.NewSearch.{begun}
+use Rattle.plain_search.proofs.Faced.{nodes-faced, IsNode-faced, IsGraph-faced}
 use Rattle.plain_search.proofs.search.Search.new.Goals as goal
 
 pub returns-clause-begun : goal.returns-clause-begun

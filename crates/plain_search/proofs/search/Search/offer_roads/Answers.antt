@@ -4,8 +4,8 @@ use Rattle.road_graph.specs.Roads.{ins}
 use Rattle.plain_search.specs.declared.reached.Reached.{Reached}
 use Rattle.plain_search.specs.declared.reached.Way.{Way}
 use Rattle.plain_search.specs.Searching.{faced, reached_by}
-use Rattle.plain_search.proofs.Facing.{IsNode-faced, IsNode-from_faced}
-use Rattle.plain_search.proofs.Searches.{listed_node, listed_short, after_offer, after_offers, same-then}
+use Rattle.plain_search.proofs.Faced.{IsNode-faced, IsNode-from_faced}
+use Rattle.plain_search.proofs.IsSearch.{listed_node, listed_short, after_offer, after_offers, same-then}
 use Rattle.plain_search.proofs.search.Search.offer_roads.Goals as goal
 
 pub road_count-index-end-requires : goal.road_count-index-end-requires
@@ -38,7 +38,7 @@ loop-index-preserved g c =
       reached = c.in_ok-offer.ensures.reached ∙ l.reached;
       search = m.search;
       offered = m.offered;
-      steps = (let e = ap (λ (p : ℕ × ℕ). p.0) c.road_at-weight.ensures.steps in let le = l.steps in omega arith);
+      steps = (let e = ap (λ (p : ℕ × ℕ). p.0) c.road_at-weight.ensures.steps in let is = l.steps in omega arith);
       asks = ap (λ (p : ℕ × ℕ). p.1) c.road_at-weight.ensures.steps ∙ l.asks;
     }
 

@@ -1,4 +1,4 @@
-use Rattle.plain_search.proofs.Finishing.{falls}
+use Rattle.plain_search.proofs.IsReach.{falls}
 use Rattle.plain_search.proofs.search.Search.settle_until.Goals as goal
 
 pub settling-smaller : goal.settling-smaller

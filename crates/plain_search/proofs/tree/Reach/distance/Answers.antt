@@ -2,7 +2,7 @@ use Rattle.std.proofs.Common.{ap, ◌∙◌, sym, subst, List, None}
 use Rattle.plain_search.specs.declared.reached.Reached.{Reached}
 use Rattle.plain_search.specs.Marking.{ArePlaces}
 use Rattle.plain_search.specs.Reaching.{Listing}
-use Rattle.plain_search.proofs.Looking.{read_distance}
+use Rattle.plain_search.proofs.DistanceOf.{read_distance}
 use Rattle.plain_search.proofs.tree.Reach.distance.Goals as goal
 
 pub returns-clause-listed : goal.returns-clause-listed

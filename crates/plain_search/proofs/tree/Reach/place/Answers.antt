@@ -1,6 +1,6 @@
 use Rattle.std.proofs.Common.{ap, ◌∙◌}
 use Rattle.plain_search.specs.Marking.{mark_of}
-use Rattle.plain_search.proofs.Looking.{place_tells}
+use Rattle.plain_search.proofs.DistanceOf.{place_tells}
 use Rattle.plain_search.proofs.tree.Reach.place.Goals as goal
 
 pub returns : goal.returns

@@ -3,8 +3,8 @@ use Rattle.std.specs.Option.{option_map}
 use Rattle.plain_search.specs.declared.reached.Reached.{Reached}
 use Rattle.plain_search.specs.Marking.{ArePlaces}
 use Rattle.plain_search.specs.Reaching.{Listing}
-use Rattle.plain_search.proofs.Pairing.{place_within, more_pairs, same_pairs, all_pairs}
-use Rattle.plain_search.proofs.Valid.{valid}
+use Rattle.plain_search.proofs.ArePairs.{place_within, more_pairs, same_pairs, all_pairs}
+use Rattle.plain_search.proofs.IsPotential.{valid}
 use Rattle.plain_search.proofs.tree.Reach.potential.Goals as goal
 use Rattle.plain_search.proofs.tree.Reach.potential.Goals.{in-Some+in_ok-push, in_default}
 

@@ -1,4 +1,4 @@
-use Rattle.plain_search.proofs.Pairing.{ArePairs}
+use Rattle.plain_search.proofs.ArePairs.{ArePairs}
 use Rattle.plain_search.proofs.tree.Reach.potential.Given as goal
 
 abbrev pub invariant-loop-mark : goal.invariant-loop-mark

@@ -1,9 +1,9 @@
-use Rattle.std.proofs.Common.{ap, ◌∙◌, subst, List, None}
+use Rattle.std.proofs.Common.{arith, ap, ◌∙◌, subst, List, None}
 use Rattle.plain_search.specs.declared.reached.Reached.{Reached}
 use Rattle.plain_search.specs.declared.reached.Way.{Way}
 use Rattle.plain_search.specs.Marking.{ArePlaces}
 use Rattle.plain_search.specs.Reaching.{Listing, in_way}
-use Rattle.plain_search.proofs.Tracing.{IsTracing, trace_more, few_traced, walk_made}
+use Rattle.plain_search.proofs.WalkBack.{IsTracing, trace_more, few_traced, walk_made, walk_reads, few_reads}
 use Rattle.plain_search.proofs.tree.Reach.walk_back.Goals as goal
 
 pub loop-at-smaller : goal.loop-at-smaller
@@ -33,3 +33,17 @@ returns-clause-walk g c =
     let passed = c.as_slice-2.ensures.value ∙ c.turned-nodes.ensures ∙ ap (λ (w : Way). in_way w c.loop-at.nodes.items) way in
     walk_made c.args.graph.now c.args.self.now c.requires c.args.node c.loop-at.nodes.items c.as_slice-2.result.now
     (subst (IsTracing c.args.graph.now c.args.self.now c.args.node c.loop-at.nodes.items) c.in_default.is c.loop-at.invariant) passed c.made.result c.made.ensures.walk
+
+pub returns-clause-steps : goal.returns-clause-steps
+returns-clause-steps g c =
+    let way = ap (λ (l : Listing). l.way) c.self.view_is in
+    let passed = c.as_slice-2.ensures.value ∙ c.turned-nodes.ensures ∙ ap (λ (w : Way). in_way w c.loop-at.nodes.items) way in
+    walk_reads c.args.graph.now c.args.self.now c.requires c.args.node c.loop-at.nodes.items c.as_slice-2.result.now (subst (IsTracing c.args.graph.now c.args.self.now c.args.node c.loop-at.nodes.items) c.in_default.is c.loop-at.invariant) passed c.made.result c.args.steps.now c.made.new.steps c.made.ensures.walk c.made.ensures.steps
+
+pub returns-clause-most : goal.returns-clause-most
+returns-clause-most g c =
+    let way = ap (λ (l : Listing). l.way) c.self.view_is in
+    let passed = c.as_slice-2.ensures.value ∙ c.turned-nodes.ensures ∙ ap (λ (w : Way). in_way w c.loop-at.nodes.items) way in
+    let few = few_reads c.args.graph.now c.args.self.now c.requires c.args.node c.loop-at.nodes.items c.as_slice-2.result.now (subst (IsTracing c.args.graph.now c.args.self.now c.args.node c.loop-at.nodes.items) c.in_default.is c.loop-at.invariant) passed in
+    let most = c.made.ensures.most in
+    omega arith

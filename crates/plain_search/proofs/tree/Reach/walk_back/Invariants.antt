@@ -1,4 +1,4 @@
-use Rattle.plain_search.proofs.Tracing.{IsTracing, left_after}
+use Rattle.plain_search.proofs.WalkBack.{IsTracing, left_after}
 use Rattle.plain_search.proofs.tree.Reach.walk_back.Given as goal
 
 abbrev pub invariant-loop-at : goal.invariant-loop-at

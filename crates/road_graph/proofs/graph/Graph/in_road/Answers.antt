@@ -1,4 +1,4 @@
-use Rattle.road_graph.proofs.Ends.{in_end_at}
+use Rattle.road_graph.proofs.RoadEnds.{in_end_at}
 use Rattle.road_graph.proofs.graph.Graph.in_road.Goals as goal
 
 pub returns-clause-end : goal.returns-clause-end

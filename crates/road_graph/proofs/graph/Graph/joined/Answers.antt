@@ -2,7 +2,7 @@ use Rattle.std.proofs.Common.{sym, ap, ◌∙◌, ◌≡◌, length, arith, ℕ,
 use Rattle.road_graph.specs.declared.road.NodeNo.{NodeNo}
 use Rattle.road_graph.specs.Roads.{outs}
 use Rattle.road_graph.specs.Listing.{least_in}
-use Rattle.road_graph.proofs.Ends.{outs_none, least_none, least_out}
+use Rattle.road_graph.proofs.RoadEnds.{outs_none, least_none, least_out}
 use Rattle.road_graph.proofs.graph.Graph.joined.Goals as goal
 
 pub returns-then-not-has-clause-weight : goal.returns-then-not-has-clause-weight

@@ -1,4 +1,4 @@
-use Rattle.road_graph.proofs.Ends.{out_end_at}
+use Rattle.road_graph.proofs.RoadEnds.{out_end_at}
 use Rattle.road_graph.proofs.graph.Graph.out_road.Goals as goal
 
 pub returns-clause-end : goal.returns-clause-end

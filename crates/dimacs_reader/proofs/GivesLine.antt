@@ -1,0 +1,114 @@
+use Rattle.std.proofs.Common.{◌≡◌, ℕ, ◌+◌, Bool, true, false, cond, List, [], ◌∷◌, ◌++◌, length-append, position, Option, Some, None, Result, Ok, Err, refl, sym, ap, ◌∙◌, arith, inl, inr}
+use Rattle.std.specs.Prelude.{not, is_some, IfOk, IfSome}
+use Rattle.ride_base.proofs.LineLaws.{after_last_line}
+use Rattle.ride_base.specs.Pieces.{Piece, Whole, pieces, after_line, is_ended, is_line_end, largest_text}
+use Rattle.ride_base.specs.Prefixes.{AreGiven, IsReadWithLines}
+use Rattle.ride_base.specs.Reader.{Reader}
+use Rattle.ride_base.specs.Reading.{Counts, Tells, unread, line_read, over_after}
+use Rattle.ride_base.specs.Told.{ahead}
+use Rattle.ride_base.specs.declared.lines.Line.{Line}
+use Rattle.ride_base.specs.declared.lines.LineFault.{LineFault}
+use Rattle.ride_base.specs.declared.lines.LineFault.TheVariants.{Fault as LineFaultOfShelf, Long, Large, NoMemory}
+use Rattle.dimacs_reader.specs.declared.faults.GraphFault.{GraphFault}
+use Rattle.dimacs_reader.specs.declared.faults.GraphFault.TheVariants.{Fault}
+use Rattle.dimacs_reader.specs.Reading.{GivesLine, fault_at}
+use Rattle.dimacs_reader.specs.Refusals.{IsReadBehind, IsReadFrom}
+
+-- What a call that reads a line says of the lines ahead, and of those that were given.
+
+none_is : (o : Option ℕ) → is_some o ≡ false → o ≡ None
+none_is None e = refl
+none_is (Some k) e = cc
+
+-- nothing stands behind a line that no line end ends
+after_unended : (text : List ℕ) → is_ended text ≡ false → after_line text ≡ []
+after_unended text e = after_last_line text (none_is (position is_line_end text) e)
+
+not_true : (b : Bool) → (b ≡ true → ⊥) → b ≡ false
+not_true true h = absurd (h refl)
+not_true false h = refl
+
+not_false : (b : Bool) → not b ≡ false → b ≡ true
+not_false true h = refl
+not_false false h = cc
+
+-- at the end of the text
+nothing_ahead : (given : ℕ) (reader : Reader) (left : Option (List ℕ)) (line : Line) → reader.over ≡ true → GivesLine given (ahead reader left) (Ok false) line (ahead reader left)
+nothing_ahead given reader None line over = refl
+nothing_ahead given reader (Some l) line over = rw over (refl, refl)
+
+end_ahead : (given : ℕ) (old new : Reader) (left left' : Option (List ℕ)) (line : Line) → Tells old.room (unread old left) (Ok None) new.room (unread new left') → old.over ≡ false → new.over ≡ true
+    → GivesLine given (ahead old left) (Ok false) line (ahead new left')
+end_ahead given old new None None line tells still over = refl
+end_ahead given old new None (Some l') line tells still over = cc
+end_ahead given old new (Some l) None line tells still over = let f = tells.1 in cc
+end_ahead given old new (Some l) (Some l') line tells still over = rw (still, over) (ap (pieces old.room) tells.0, refl)
+
+line_ahead : (given : ℕ) (old new : Reader) (left left' : Option (List ℕ)) (line : Line) → Tells old.room (unread old left) (Ok (Some line)) new.room (unread new left') → old.over ≡ false → new.over ≡ not line.ended
+    → GivesLine given (ahead old left) (Ok true) line (ahead new left')
+line_ahead given old new None None line tells still over = refl
+line_ahead given old new None (Some l') line tells still over = cc
+line_ahead given old new (Some l) None line tells still over = let f = tells.1 in cc
+line_ahead given old new (Some l) (Some l') line tells still over = rw still (tells.0 ∙ ap (λ (rest : List Piece). Whole line.bytes ∷ rest) (rw over (on line.ended refl)))
+  where
+    is : new.pending ++ l' ≡ after_line (old.pending ++ l)
+    is = let f = tells.1 in cc
+
+    on : (b : Bool) → line.ended ≡ b → pieces new.room (after_line (old.pending ++ l)) ≡ cond (not b) [] (pieces new.room (new.pending ++ l'))
+    on true e = ap (pieces new.room) (sym is)
+    on false e = ap (pieces new.room) (after_unended (old.pending ++ l) (sym tells.2 ∙ e))
+
+refused_ahead : (given : ℕ) (old new : Reader) (left left' : Option (List ℕ)) (line : Line) (why : LineFault) → Tells old.room (unread old left) (Err why) new.room (unread new left') → old.over ≡ false
+    → GivesLine given (ahead old left) (Err (fault_at (given + 1) why)) line (ahead new left')
+refused_ahead given old new None left' line why tells still = tt
+refused_ahead given old new (Some l) left' line LineFaultOfShelf tells still = tt
+refused_ahead given old new (Some l) left' line Long tells still = rw still (refl, inl tells.0)
+refused_ahead given old new (Some l) left' line Large tells still = rw still (refl, inr tells.0)
+refused_ahead given old new (Some l) left' line NoMemory tells still = tt
+
+-- an answer with the number of the line that it is about
+abbrev pub numbered : ℕ → Result Bool LineFault → Result Bool GraphFault
+numbered line (Ok read) = Ok read
+numbered line (Err why) = Err (fault_at line why)
+
+pub gives : (given : ℕ) (old new : Reader) (left left' : Option (List ℕ)) (answer : Result Bool LineFault) (line : Line)
+    → (old.over ≡ false → Tells old.room (unread old left) (line_read answer line) new.room (unread new left')) → new.over ≡ over_after old.over (line_read answer line)
+    → (old.over ≡ true → (answer ≡ Ok false) × (new ≡ old) × (left' ≡ left))
+    → GivesLine given (ahead old left) (numbered (given + 1) answer) line (ahead new left')
+gives given old new left left' answer line tells over ended = on old.over refl
+  where
+    still : (answer : Result Bool LineFault) → old.over ≡ false → Tells old.room (unread old left) (line_read answer line) new.room (unread new left') → new.over ≡ over_after old.over (line_read answer line)
+        → GivesLine given (ahead old left) (numbered (given + 1) answer) line (ahead new left')
+    still (Ok false) e t o = end_ahead given old new left left' line t e o
+    still (Ok true) e t o = line_ahead given old new left left' line t e o
+    still (Err why) e t o = refused_ahead given old new left left' line why t e
+
+    on : (b : Bool) → old.over ≡ b → GivesLine given (ahead old left) (numbered (given + 1) answer) line (ahead new left')
+    on true e = let f = ended e in rw (f.0, f.1, f.2) (nothing_ahead given old left line e)
+    on false e = still answer e (tells e) over
+
+-- one line more
+pub one_given : (text : List ℕ) (old new : Reader) (left left' : Option (List ℕ)) (read : Bool) (line : Line) → ◌≡◌ {A = Result Bool GraphFault} (Ok read) (Ok true)
+    → new.over ≡ over_after old.over (line_read (Ok read) line) → (old.over ≡ true → ◌≡◌ {A = Result Bool LineFault} (Ok read) (Ok false)) → Counts old (line_read (Ok read) line) new
+    → IfOk (line_read (Ok read) line) (λ o. IfSome o (λ given. given.ended ≡ true → (all : ℕ) (text : List ℕ) (lines : List (List ℕ)) → AreGiven all text lines old left → AreGiven all text (lines ++ given.bytes ∷ []) new left'))
+    → IsReadFrom text old left → IsReadFrom text new left'
+one_given text old new left left' false line is over ended counts goes from = cc
+one_given text old new left left' true line is over ended counts goes from = λ still.
+    let given = from (not_true old.over (λ e. let f = ended e in cc)) in
+    let more = counts.1 in
+    (given.0 ++ line.bytes ∷ [], goes (not_false line.ended (sym over ∙ still)) largest_text text given.0 given.1, omega (arith, length-append given.0 (line.bytes ∷ []), given.2, more))
+
+fault_of_shelf : (line : ℕ) (why : LineFault) → ◌≡◌ {A = Result Bool GraphFault} (Err (fault_at line why)) (Err Fault) → why ≡ LineFaultOfShelf
+fault_of_shelf line LineFaultOfShelf e = refl
+fault_of_shelf line Long e = cc
+fault_of_shelf line Large e = cc
+fault_of_shelf line NoMemory e = cc
+
+-- the shelf failed
+pub none_given : (text : List ℕ) (old : Reader) (left left' : Option (List ℕ)) (line : ℕ) (why : LineFault) → ◌≡◌ {A = Result Bool GraphFault} (Err (fault_at line why)) (Err Fault)
+    → (old.over ≡ true → ◌≡◌ {A = Result Bool LineFault} (Err why) (Ok false))
+    → (◌≡◌ {A = Result Bool LineFault} (Err why) (Err LineFaultOfShelf) → (all : ℕ) (text : List ℕ) (lines : List (List ℕ)) → AreGiven all text lines old left → IsReadWithLines all text lines left')
+    → IsReadFrom text old left → IsReadBehind text left' old.given
+none_given text old left left' line why is ended failed from =
+    let given = from (not_true old.over (λ e. let f = ended e in cc)) in
+    (given.0, failed (ap Err (fault_of_shelf line why is)) largest_text text given.0 given.1, given.2)
