@@ -1,0 +1,16 @@
+pub mod Chaining
+pub mod Climbing
+pub mod Having
+pub mod Passing
+pub mod Parting
+pub mod Stepping
+pub mod Fitting
+pub mod Filtering
+pub mod Bridging
+pub mod Standing
+pub mod Reaching
+pub mod Starting
+pub mod Clearing
+pub mod Working
+pub mod Ordering
+pub mod Examples

@@ -1,0 +1,92 @@
+use Rattle.std.specs.Prelude.{◌≡◌, ℕ, ◌+◌, ◌<◌, ◌≤◌, ◌^◌, ◌⊎◌, List, length, Option, Some, None, slice_get, slice_index}
+use Rattle.road_graph.specs.declared.road.NodeNo.{NodeNo}
+use Rattle.road_graph.specs.Roads.{Roads, IsNode, least_weight}
+use Rattle.road_graph.specs.Graphs.{IsGraph}
+use Rattle.road_graph.specs.Walks.{IsDist, NoWalk}
+use Rattle.upward_search.specs.declared.slope.Arc.{Arc}
+use Rattle.upward_search.specs.Rows.{row, IsUpward}
+use Rattle.upward_search.specs.Climbs.{IsIn, IsClimb, climb_length}
+
+-- the nodes in the order of their ranks, the place of each at its number, the climbing arcs at the places that they leave, and the falling arcs at the places that they
+-- enter, each with the higher end as its other end
+pub record Ladder : Type 0 where
+  pub nodes : List NodeNo
+  pub places : List ℕ
+  pub climbs : List (List Arc)
+  pub falls : List (List Arc)
+
+abbrev pub IsAt : Ladder → ℕ → NodeNo → Type 0
+IsAt h p n = slice_get h.nodes p ≡ Some n
+
+-- over a lower place a falling and a climbing arc lead from one place to another
+pub record IsOverPlace (h : Ladder) (from to k length : ℕ) : Type 0 where
+  pub lower : k < from
+  pub below : k < to
+  pub fall : Arc
+  pub falls : IsIn (row h.falls k) fall
+  pub starts : fall.to ≡ from
+  pub climb : Arc
+  pub climbs : IsIn (row h.climbs k) climb
+  pub ends : climb.to ≡ to
+  pub sum : fall.length + climb.length ≡ length
+
+-- the ranks are the places, each arc of both kinds leads up in its rows, and one with a middle below both ends is a falling and a climbing arc over it
+pub record IsLadder (h : Ladder) : Type 0 where
+  pub climbs_many : length h.climbs ≡ length h.nodes
+  pub falls_many : length h.falls ≡ length h.nodes
+  pub climbs_up : IsUpward h.climbs
+  pub falls_up : IsUpward h.falls
+  pub climbs_over : (p : ℕ) (a : Arc) → IsIn (row h.climbs p) a → a.middle < p → IsOverPlace h p a.to a.middle a.length
+  pub falls_over : (p : ℕ) (a : Arc) → IsIn (row h.falls p) a → a.middle < p → IsOverPlace h a.to p a.middle a.length
+
+pub record IsRoadArc (g : Roads) (h : Ladder) (from to length : ℕ) : Type 0 where
+  pub u : NodeNo
+  pub v : NodeNo
+  pub starts : IsAt h from u
+  pub ends : IsAt h to v
+  pub weight : least_weight g.roads u v ≡ Some length
+
+-- an arc from one place to another with this middle, which is a road where the middle isn't below both ends
+abbrev pub IsArcOf : Roads → Ladder → ℕ → ℕ → ℕ → ℕ → Type 0
+IsArcOf g h from to length middle = IsRoadArc g h from to length ⊎ IsOverPlace h from to middle length
+
+-- a way over the highest place of a walk
+pub record IsTop (h : Ladder) (p q x : ℕ) : Type 0 where
+  pub top : ℕ
+  pub up : List Arc
+  pub climbs : IsClimb h.climbs p top up
+  pub down : List Arc
+  pub falls : IsClimb h.falls q top down
+  pub sum : climb_length up + climb_length down ≡ x
+
+pub record LadderFits (g : Roads) (h : Ladder) : Type 0 where
+  pub graph : IsGraph g
+  pub nodes : (p : ℕ) (n : NodeNo) → IsAt h p n → IsNode g n
+  pub climbing : (p : ℕ) (a : Arc) → IsIn (row h.climbs p) a → p ≤ a.middle → IsRoadArc g h p a.to a.length
+  pub falling : (p : ℕ) (a : Arc) → IsIn (row h.falls p) a → p ≤ a.middle → IsRoadArc g h a.to p a.length
+  pub covers : (p q : ℕ) (u v : NodeNo) (x : ℕ) → IsAt h p u → IsAt h q v → IsDist g u v x → IsTop h p q x
+
+-- the least of these ways, where only lengths below 2^53 count
+abbrev pub IsLeastTop : Ladder → ℕ → ℕ → Option ℕ → Type 0
+IsLeastTop h p q None = (x : ℕ) → IsTop h p q x → 2 ^ 53 ≤ x
+IsLeastTop h p q (Some y) = IsTop h p q y × ((x : ℕ) → IsTop h p q x → (y ≤ x) ⊎ (2 ^ 53 ≤ x))
+
+abbrev pub IsNamed : Ladder → NodeNo → Type 0
+IsNamed h n = (1 ≤ n.0) × (n.0 ≤ length h.nodes)
+
+-- each node's number is where its place stands
+pub record ArePlaces (nodes : List NodeNo) (places : List ℕ) : Type 0 where
+  pub many : length places ≡ length nodes + 1
+  pub each : (n : NodeNo) → 1 ≤ n.0 → n.0 ≤ length nodes → slice_get nodes (slice_index places n.0) ≡ Some n
+  pub back : (p : ℕ) (n : NodeNo) → slice_get nodes p ≡ Some n → slice_index places n.0 ≡ p
+  pub inside : (p : ℕ) (n : NodeNo) → slice_get nodes p ≡ Some n → n.0 < length places
+  pub some : (p : ℕ) (n : NodeNo) → slice_get nodes p ≡ Some n → 1 ≤ n.0
+
+-- no node has two places
+abbrev pub AreApart : Ladder → Type 0
+AreApart h = (p q : ℕ) (n : NodeNo) → IsAt h p n → IsAt h q n → p ≡ q
+
+-- the distance, or none where there is no walk
+abbrev pub IsAnswer : Roads → NodeNo → NodeNo → Option ℕ → Type 0
+IsAnswer g u v None = NoWalk g u v
+IsAnswer g u v (Some x) = IsDist g u v x
