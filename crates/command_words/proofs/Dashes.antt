@@ -5,15 +5,14 @@ use Rattle.std.specs.Str.{bytes_eq}
 use Rattle.std.proofs.lemmas.Bool.{eqb-true}
 use Rattle.clap.proofs.WalkLemmas.{both}
 use Rattle.ride_base.specs.Digits.{number_of}
-use Rattle.command_words.specs.Commands.{Command, Meaning, Ends, Names, Plain, Valued, Awaits, Refused, Said, Word, and_then, are_distinct, begins_with_dash, is_one_of, is_whole, kept_where, meaning_of, number_or, parameters, said, said_by, said_from, value_in, with_name, with_plain, with_value, within, is_fair}
+use Rattle.command_words.specs.Commands.{rates_from, Command, Meaning, Ends, Names, Plain, Valued, Awaits, Refused, Said, Word, and_then, are_distinct, begins_with_dash, is_one_of, is_whole, kept_where, meaning_of, number_or, parameters, said, said_by, said_from, value_in, with_name, with_plain, with_value, within, is_fair}
 use Rattle.stop_schedule.specs.Rates.{Rates}
-use Rattle.command_words.specs.Reading.{rates_by}
 use Rattle.command_words.proofs.Uses.{Use, Name, Value, Flag, uses_from}
-use Rattle.command_words.proofs.Walking.{same_text}
-use Rattle.command_words.proofs.Tables.{same_word}
-use Rattle.command_words.proofs.Sayings.{AreOf, differs, keys, split, turned_eq}
-use Rattle.command_words.proofs.Meanings.{AreOfOption, IsMeant, has_no_dash, said_so, same_sound, sound, uses_of_command, word_meant}
-use Rattle.command_words.proofs.Answering.{used_by}
+use Rattle.command_words.proofs.MatchesOf.{same_text}
+use Rattle.command_words.proofs.Rules.{same_word}
+use Rattle.command_words.proofs.UsesSaid.{AreOf, differs, keys, split, turned_eq}
+use Rattle.command_words.proofs.MeaningOf.{AreOfOption, IsMeant, has_no_dash, said_so, same_sound, sound, uses_of_command, word_meant}
+use Rattle.command_words.proofs.AnswerOf.{used_by}
 
 -- A value that begins with a dash is no number, so that a form has none.
 
@@ -181,8 +180,8 @@ module _ (find : Word → Option Word) where
 none_first : {Y : Type 0} (x : Option ℕ) (f : ℕ → Option Y) → x ≡ None → and_then x f ≡ None
 none_first x f e = ap (λ y. and_then y f) e
 
-pub rates_dash : (find : Word → Option Word) (o v : Word) → is_one_of parameters o ≡ true → find o ≡ Some v → begins_with_dash v ≡ true → rates_by find ≡ None
-rates_dash find o v is e dash = by_each (λ o. find o ≡ Some v → rates_by find ≡ None) parameters (
+pub rates_dash : (find : Word → Option Word) (o v : Word) → is_one_of parameters o ≡ true → find o ≡ Some v → begins_with_dash v ≡ true → rates_from find ≡ None
+rates_dash find o v is e dash = by_each (λ o. find o ≡ Some v → rates_from find ≡ None) parameters (
   λ e. none_first _ (rates_two find) (number_none find (codes "stop") v 0 2 e dash),
   (
     λ e. none_then _ (rates_two find) (λ a. none_first _ (rates_three find a) (number_none find (codes "wait") v 0 20 e dash)),

@@ -1,9 +1,9 @@
-pub mod Uses
-pub mod Walking
-pub mod Tables
-pub mod Building
-pub mod Sayings
-pub mod Meanings
-pub mod Answering
-pub mod Dashes
-pub mod Modes
+mod Uses
+mod MatchesOf
+mod Rules
+mod WithRules
+mod UsesSaid
+mod MeaningOf
+mod AnswerOf
+mod Dashes
+mod Modes

@@ -8,11 +8,11 @@ use Rattle.clap.specs.Simple.{built}
 use Rattle.clap.specs.Values.{bool_text}
 use Rattle.stop_schedule.specs.Rates.{Rates}
 use Rattle.ride_base.specs.Digits.{number_of}
-use Rattle.command_words.specs.Commands.{Audit, Form, Live, Run, RunOptions, Said, Walk, Word, and_then, audit_command, audit_form, begins_with_dash, form_of, gen_command, gen_form, is_one_of, largest_node, live_command, live_form, number_or, optional_within, parameters, rates_in, run_command, run_form, run_options, value_in, walk_command, walk_form}
-use Rattle.command_words.specs.Reading.{app_for, audit_by, audit_in, gen_by, gen_in, live_by, live_in, rates_by, run_by, run_in, three_by, walk_by, walk_in}
-use Rattle.command_words.proofs.Tables.{same_word}
-use Rattle.command_words.proofs.Sayings.{in_places}
-use Rattle.command_words.proofs.Answering.{Comes, IsTable, built_for}
+use Rattle.command_words.specs.Commands.{rates_from, Audit, Form, Live, Run, RunOptions, Said, Walk, Word, and_then, audit_command, audit_form, begins_with_dash, form_of, gen_command, gen_form, is_one_of, largest_node, live_command, live_form, number_or, optional_within, parameters, run_command, run_form, run_options, value_in, walk_command, walk_form}
+use Rattle.command_words.specs.Reading.{app_for, audit_by, audit_in, gen_by, gen_in, live_by, live_in, run_by, run_in, three_by, walk_by, walk_in}
+use Rattle.command_words.proofs.Rules.{same_word}
+use Rattle.command_words.proofs.UsesSaid.{in_places}
+use Rattle.command_words.proofs.AnswerOf.{Comes, IsTable, built_for}
 use Rattle.command_words.proofs.Dashes.{Minds, by_each, none_then, rates_dash, said_used, within_dash}
 
 -- What clap's answer says of the words of each mode.
@@ -65,7 +65,7 @@ three_form find a b c s f form is e room =
 
 -- ---- parameters
 
-rates_same : (f g : Word → Option Word) → ((o : Word) → is_one_of parameters o ≡ true → f o ≡ g o) → rates_by f ≡ rates_by g
+rates_same : (f g : Word → Option Word) → ((o : Word) → is_one_of parameters o ≡ true → f o ≡ g o) → rates_from f ≡ rates_from g
 rates_same f g h =
     let stop = h (codes "stop") refl in
     let wait = h (codes "wait") refl in
@@ -87,7 +87,7 @@ in_either xs ys o e = go (is_one_of xs o) refl (sym (list_any-append (λ x. byte
 in_one : (xs : List Word) (x o : Word) → is_one_of xs o ≡ true → is_one_of (xs ++ x ∷ []) o ≡ true
 in_one xs x o e = list_any-append (λ y. bytes_eq y o) xs (x ∷ []) ∙ ap (λ t. t || is_one_of (x ∷ []) o) e
 
-rates_none : (s : Said) (o v : Word) → is_one_of parameters o ≡ true → value_in s.valued o ≡ Some v → begins_with_dash v ≡ true → rates_in s ≡ None
+rates_none : (s : Said) (o v : Word) → is_one_of parameters o ≡ true → value_in s.valued o ≡ Some v → begins_with_dash v ≡ true → rates_from (value_in s.valued) ≡ None
 rates_none s o v is e dash = rates_dash (value_in s.valued) o v is e dash
 
 -- ---- run
@@ -117,7 +117,7 @@ run_minds s o v is e dash = ap (run_form s.names) (none (in_either parameters (c
     none : (is_one_of parameters o ≡ true) ⊎ (is_one_of (codes "window" ∷ []) o ≡ true) → run_options s ≡ None
     none (inl rate) = ap (λ r. and_then r (λ rates. option_map (λ window. record { rates = rates; window = window; proof = is_one_of s.plain (codes "proof") }) (optional_within 1 4096 (value_in s.valued (codes "window"))))) (rates_none s o v rate e dash)
     none (inr window) = by_each (λ o. value_in s.valued o ≡ Some v → run_options s ≡ None) (codes "window" ∷ []) (
-      λ e. none_then (rates_in s) _ (λ rates. ap (option_map (λ window. record { rates = rates; window = window; proof = is_one_of s.plain (codes "proof") }))
+      λ e. none_then (rates_from (value_in s.valued)) _ (λ rates. ap (option_map (λ window. record { rates = rates; window = window; proof = is_one_of s.plain (codes "proof") }))
           (ap (optional_within 1 4096) e ∙ ap (option_map Some) (within_dash 1 4096 v dash))),
       tt,
     ) o window e
@@ -146,7 +146,7 @@ run_some words rows (s, (shows, (flag, is))) =
     let find = λ (o : Word). first_of o rows in
     let rates = rates_same find (value_in s.valued) (λ o h. shows.values o (in_one parameters (codes "window") o h)) in
     let window = shows.values (codes "window") refl in
-    let each = λ (g f t : Word). run_options_out (rates_in s) (optional_within 1 4096 (value_in s.valued (codes "window"))) proof g f t
+    let each = λ (g f t : Word). run_options_out (rates_from (value_in s.valued)) (optional_within 1 4096 (value_in s.valued (codes "window"))) proof g f t
     ∙ ap₂ (λ r w. and_then r (λ rates. option_map (λ window. Run g f t (record { rates = rates; window = window; proof = proof })) (optional_within 1 4096 w))) (sym rates) (sym window) in
     let form = run_form_is s.names (run_options s) ∙ (λ j. by_three s.names (λ g f t. each g f t j)) in (
       proof,
@@ -163,7 +163,7 @@ abbrev pub audit_ids : List Word
 audit_ids = codes "graph" ∷ codes "fleet" ∷ codes "journal" ∷ []
 
 abbrev audit_of : Said → Option Form
-audit_of s = audit_form s.names (rates_in s)
+audit_of s = audit_form s.names (rates_from (value_in s.valued))
 
 pub audit_table : IsTable audit_command audit_ids
 audit_table = record { count = refl; names = (refl, (refl, (refl, (refl, (refl, (refl, (refl, (refl, (refl, tt))))))))); valued = refl; plain = refl; options = refl; places = (refl, (refl, (refl, (refl, (refl, (refl, refl)))))) }
@@ -195,7 +195,7 @@ pub audit_some : (words : List Word) (rows : List Row) → Comes audit_command a
 audit_some words rows (s, (shows, (flag, is))) =
     let find = λ (o : Word). first_of o rows in
     let rates = rates_same find (value_in s.valued) (λ o h. shows.values o h) in
-    let form = audit_form_is s.names (rates_in s) ∙ (λ j. by_three s.names (λ g f t. option_map (Audit g f t) (sym rates j))) in
+    let form = audit_form_is s.names (rates_from (value_in s.valued)) ∙ (λ j. by_three s.names (λ g f t. option_map (Audit g f t) (sym rates j))) in
     three_form find (codes "graph") (codes "fleet") (codes "journal") s _ audit_of form shows.names shows.room
     ∙ ap (λ x. and_then x audit_of) (sym is) ∙ sym (said_used audit_command audit_of audit_minds words)
 
@@ -266,7 +266,7 @@ gen_some words rows (s, (shows, (flag, is))) =
 -- ---- live
 
 abbrev live_of : Said → Option Form
-live_of s = live_form s.names (rates_in s) (number_or 1 64 2 (value_in s.valued (codes "workers")))
+live_of s = live_form s.names (rates_from (value_in s.valued)) (number_or 1 64 2 (value_in s.valued (codes "workers")))
 
 pub live_table : IsTable live_command run_ids
 live_table = record { count = refl; names = (refl, (refl, (refl, (refl, (refl, (refl, (refl, (refl, (refl, tt))))))))); valued = refl; plain = refl; options = refl; places = (refl, (refl, (refl, (refl, (refl, (refl, refl)))))) }
@@ -289,15 +289,15 @@ three_none (a ∷ b ∷ c ∷ []) f h = h a b c
 three_none (a ∷ b ∷ c ∷ d ∷ names) f h = refl
 
 live_minds : Minds live_command live_of
-live_minds s o v is e dash = live_form_is s.names (rates_in s) workers ∙ three_none s.names _ (λ g f t. none (in_either parameters (codes "workers" ∷ []) o is) g f t)
+live_minds s o v is e dash = live_form_is s.names (rates_from (value_in s.valued)) workers ∙ three_none s.names _ (λ g f t. none (in_either parameters (codes "workers" ∷ []) o is) g f t)
   where
     workers : Option ℕ
     workers = number_or 1 64 2 (value_in s.valued (codes "workers"))
 
-    none : (is_one_of parameters o ≡ true) ⊎ (is_one_of (codes "workers" ∷ []) o ≡ true) → (g f t : Word) → and_then (rates_in s) (λ rates. option_map (Live g f t rates) workers) ≡ None
+    none : (is_one_of parameters o ≡ true) ⊎ (is_one_of (codes "workers" ∷ []) o ≡ true) → (g f t : Word) → and_then (rates_from (value_in s.valued)) (λ rates. option_map (Live g f t rates) workers) ≡ None
     none (inl rate) g f t = ap (λ r. and_then r (λ rates. option_map (Live g f t rates) workers)) (rates_none s o v rate e dash)
-    none (inr given) g f t = by_each (λ o. value_in s.valued o ≡ Some v → and_then (rates_in s) (λ rates. option_map (Live g f t rates) workers) ≡ None) (codes "workers" ∷ []) (
-      λ e. none_then (rates_in s) _ (λ rates. ap (option_map (Live g f t rates)) (ap (number_or 1 64 2) e ∙ within_dash 1 64 v dash)),
+    none (inr given) g f t = by_each (λ o. value_in s.valued o ≡ Some v → and_then (rates_from (value_in s.valued)) (λ rates. option_map (Live g f t rates) workers) ≡ None) (codes "workers" ∷ []) (
+      λ e. none_then (rates_from (value_in s.valued)) _ (λ rates. ap (option_map (Live g f t rates)) (ap (number_or 1 64 2) e ∙ within_dash 1 64 v dash)),
       tt,
     ) o given e
 
@@ -309,7 +309,7 @@ live_some words rows (s, (shows, (flag, is))) =
     let find = λ (o : Word). first_of o rows in
     let rates = rates_same find (value_in s.valued) (λ o h. shows.values o (in_one parameters (codes "workers") o h)) in
     let workers = shows.values (codes "workers") refl in
-    let form = live_form_is s.names (rates_in s) (number_or 1 64 2 (value_in s.valued (codes "workers")))
+    let form = live_form_is s.names (rates_from (value_in s.valued)) (number_or 1 64 2 (value_in s.valued (codes "workers")))
     ∙ (λ j. by_three s.names (λ g f t. and_then (sym rates j) (λ rates. option_map (Live g f t rates) (number_or 1 64 2 (sym workers j))))) in
     three_form find (codes "graph") (codes "fleet") (codes "stream") s _ live_of form shows.names shows.room
     ∙ ap (λ x. and_then x live_of) (sym is) ∙ sym (said_used live_command live_of live_minds words)

@@ -2,7 +2,7 @@ use Rattle.std.specs.Prelude.{ℕ, ◌*◌, ◌==◌, ◌&&◌, nat_le, not, Boo
 use Rattle.std.specs.List.{list_any, before_first, after_first}
 use Rattle.std.specs.Str.{bytes_eq}
 use Rattle.ride_base.specs.Digits.{number_of}
-use Rattle.stop_schedule.specs.Rates.{Rates, usual}
+use Rattle.stop_schedule.specs.Rates.{Rates, rates_of, usual}
 
 -- What the words of a command line say.
 
@@ -137,24 +137,24 @@ abbrev pub and_then : {X Y : Type 0} → Option X → (X → Option Y) → Optio
 and_then None f = None
 and_then (Some x) f = f x
 
--- a parameter up to 65,536
-abbrev pub parameter : Said → Word → (least usual : ℕ) → Option ℕ
-parameter s o least other = number_or least 65536 other (value_in s.valued o)
+-- a parameter up to 65,536, where a function gives the values of the options
+abbrev pub parameter : (Word → Option Word) → Word → (least usual : ℕ) → Option ℕ
+parameter find o least other = number_or least 65536 other (find o)
 
 abbrev pub is_fair : Rates → Bool
 is_fair r = nat_le r.trip_num (16 * r.trip_den)
 
 -- the seven parameters, where each is in its range
-abbrev pub rates_in : Said → Option Rates
-rates_in s =
-    and_then (parameter s (codes "stop") 0 usual.stop) (λ stop.
-    and_then (parameter s (codes "wait") 0 usual.wait) (λ wait.
-    and_then (parameter s (codes "trip-num") 0 usual.trip_num) (λ trip_num.
-    and_then (parameter s (codes "trip-den") 1 usual.trip_den) (λ trip_den.
-    and_then (parameter s (codes "trip-add") 0 usual.trip_add) (λ trip_add.
-    and_then (parameter s (codes "wait-weight") 0 usual.wait_weight) (λ wait_weight.
-    and_then (parameter s (codes "trip-weight") 0 usual.trip_weight) (λ trip_weight.
-    kept_where is_fair (Some (record { stop = stop; wait = wait; trip_num = trip_num; trip_den = trip_den; trip_add = trip_add; wait_weight = wait_weight; trip_weight = trip_weight })))))))))
+abbrev pub rates_from : (Word → Option Word) → Option Rates
+rates_from find =
+    and_then (parameter find (codes "stop") 0 usual.stop) (λ stop.
+    and_then (parameter find (codes "wait") 0 usual.wait) (λ wait.
+    and_then (parameter find (codes "trip-num") 0 usual.trip_num) (λ trip_num.
+    and_then (parameter find (codes "trip-den") 1 usual.trip_den) (λ trip_den.
+    and_then (parameter find (codes "trip-add") 0 usual.trip_add) (λ trip_add.
+    and_then (parameter find (codes "wait-weight") 0 usual.wait_weight) (λ wait_weight.
+    and_then (parameter find (codes "trip-weight") 0 usual.trip_weight) (λ trip_weight.
+    kept_where is_fair (Some (rates_of stop wait trip_num trip_den trip_add wait_weight trip_weight)))))))))
 
 abbrev pub parameters : List Word
 parameters = codes "stop" ∷ codes "wait" ∷ codes "trip-num" ∷ codes "trip-den" ∷ codes "trip-add" ∷ codes "wait-weight" ∷ codes "trip-weight" ∷ []
@@ -195,7 +195,7 @@ optional_within least most (Some digits) = option_map Some (within least most di
 
 abbrev pub run_options : Said → Option RunOptions
 run_options s =
-    and_then (rates_in s) (λ rates.
+    and_then (rates_from (value_in s.valued)) (λ rates.
     option_map (λ window. record { rates = rates; window = window; proof = is_one_of s.plain (codes "proof") }) (optional_within 1 4096 (value_in s.valued (codes "window"))))
 
 abbrev pub run_form : List Word → Option RunOptions → Option Form
@@ -225,10 +225,10 @@ live_form names rates workers = None
 abbrev pub form_after : Word → List Word → Option Form
 form_after mode words =
     cond (bytes_eq mode (codes "run")) (and_then (said run_command words) (λ s. run_form s.names (run_options s)))
-    (cond (bytes_eq mode (codes "audit")) (and_then (said audit_command words) (λ s. audit_form s.names (rates_in s)))
+    (cond (bytes_eq mode (codes "audit")) (and_then (said audit_command words) (λ s. audit_form s.names (rates_from (value_in s.valued))))
     (cond (bytes_eq mode (codes "walk")) (and_then (said walk_command words) (λ s. walk_form s.names))
     (cond (bytes_eq mode (codes "gen")) (and_then (said gen_command words) (λ s. gen_form s.names))
-    (cond (bytes_eq mode (codes "live")) (and_then (said live_command words) (λ s. live_form s.names (rates_in s) (number_or 1 64 2 (value_in s.valued (codes "workers")))))
+    (cond (bytes_eq mode (codes "live")) (and_then (said live_command words) (λ s. live_form s.names (rates_from (value_in s.valued)) (number_or 1 64 2 (value_in s.valued (codes "workers")))))
     None))))
 
 -- the form of a command line, without the program's own name

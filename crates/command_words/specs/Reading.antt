@@ -1,8 +1,10 @@
-use Rattle.std.specs.Prelude.{ℕ, Bool, List, [], ◌∷◌, ◌++◌, map, Option, Some, None, option_map, codes, true}
+use Rattle.std.specs.Prelude.{◌≡◌, Bool, List, [], ◌∷◌, ◌++◌, map, Option, Some, None, option_map, codes, true}
+use Rattle.clap.specs.declared.parser.matches.Found.{Found}
+use Rattle.clap.specs.Matches.{one_text}
+use Rattle.clap.specs.Values.{bool_text}
 use Rattle.clap.specs.Words.{App, Kinds, Row, Rule, fault_of, matches_of, new_app, new_rule}
 use Rattle.clap.specs.declared.builder.action.ArgAction.TheVariants.{Set, SetTrue}
-use Rattle.stop_schedule.specs.Rates.{Rates, usual}
-use Rattle.command_words.specs.Commands.{Form, Run, Audit, Walk, Gen, Live, Word, and_then, is_fair, kept_where, largest_node, number_or, optional_within, value_in, said, rates_in, run_options, run_command, audit_command, walk_command, gen_command, live_command, run_form, audit_form, walk_form, gen_form, live_form}
+use Rattle.command_words.specs.Commands.{Form, Run, Audit, Walk, Gen, Live, Word, and_then, largest_node, number_or, optional_within, value_in, said, rates_from, run_options, run_command, audit_command, walk_command, gen_command, live_command, run_form, audit_form, walk_form, gen_form, live_form}
 use Rattle.ride_base.specs.Digits.{number_of}
 
 -- How clap is asked for a command, and what it answers.
@@ -42,30 +44,16 @@ app_for names valued plain = with_rules (with_rules (with_rules bare_app (map na
 
 -- The forms, where a function gives the values of the names and the options.
 
-abbrev pub parameter_by : (Word → Option Word) → Word → (least usual : ℕ) → Option ℕ
-parameter_by find o least other = number_or least 65536 other (find o)
-
-abbrev pub rates_by : (Word → Option Word) → Option Rates
-rates_by find =
-    and_then (parameter_by find (codes "stop") 0 usual.stop) (λ stop.
-    and_then (parameter_by find (codes "wait") 0 usual.wait) (λ wait.
-    and_then (parameter_by find (codes "trip-num") 0 usual.trip_num) (λ trip_num.
-    and_then (parameter_by find (codes "trip-den") 1 usual.trip_den) (λ trip_den.
-    and_then (parameter_by find (codes "trip-add") 0 usual.trip_add) (λ trip_add.
-    and_then (parameter_by find (codes "wait-weight") 0 usual.wait_weight) (λ wait_weight.
-    and_then (parameter_by find (codes "trip-weight") 0 usual.trip_weight) (λ trip_weight.
-    kept_where is_fair (Some (record { stop = stop; wait = wait; trip_num = trip_num; trip_den = trip_den; trip_add = trip_add; wait_weight = wait_weight; trip_weight = trip_weight })))))))))
-
 abbrev pub three_by : {X : Type 0} → (Word → Option Word) → (first second third : Word) → (Word → Word → Word → Option X) → Option X
 three_by find first second third f = and_then (find first) (λ a. and_then (find second) (λ b. and_then (find third) (f a b)))
 
 abbrev pub run_by : (Word → Option Word) → Bool → Option Form
 run_by find proof = three_by find (codes "graph") (codes "fleet") (codes "stream") (λ g f s.
-    and_then (rates_by find) (λ rates.
+    and_then (rates_from find) (λ rates.
     option_map (λ window. Run g f s (record { rates = rates; window = window; proof = proof })) (optional_within 1 4096 (find (codes "window")))))
 
 abbrev pub audit_by : (Word → Option Word) → Option Form
-audit_by find = three_by find (codes "graph") (codes "fleet") (codes "journal") (λ g f j. option_map (Audit g f j) (rates_by find))
+audit_by find = three_by find (codes "graph") (codes "fleet") (codes "journal") (λ g f j. option_map (Audit g f j) (rates_from find))
 
 abbrev pub walk_by : (Word → Option Word) → Option Form
 walk_by find = three_by find (codes "graph") (codes "from") (codes "to") (λ g from to. and_then (number_of from largest_node) (λ from. option_map (Walk g from) (number_of to largest_node)))
@@ -75,7 +63,7 @@ gen_by find = and_then (find (codes "number")) (λ n. option_map Gen (number_of 
 
 abbrev pub live_by : (Word → Option Word) → Option Form
 live_by find = three_by find (codes "graph") (codes "fleet") (codes "stream") (λ g f s.
-    and_then (rates_by find) (λ rates. option_map (Live g f s rates) (number_or 1 64 2 (find (codes "workers")))))
+    and_then (rates_from find) (λ rates. option_map (Live g f s rates) (number_or 1 64 2 (find (codes "workers")))))
 
 -- The forms of the words after each mode.
 
@@ -83,7 +71,7 @@ abbrev pub run_in : List Word → Option Form
 run_in words = and_then (said run_command words) (λ s. run_form s.names (run_options s))
 
 abbrev pub audit_in : List Word → Option Form
-audit_in words = and_then (said audit_command words) (λ s. audit_form s.names (rates_in s))
+audit_in words = and_then (said audit_command words) (λ s. audit_form s.names (rates_from (value_in s.valued)))
 
 abbrev pub walk_in : List Word → Option Form
 walk_in words = and_then (said walk_command words) (λ s. walk_form s.names)
@@ -92,4 +80,8 @@ abbrev pub gen_in : List Word → Option Form
 gen_in words = and_then (said gen_command words) (λ s. gen_form s.names)
 
 abbrev pub live_in : List Word → Option Form
-live_in words = and_then (said live_command words) (λ s. live_form s.names (rates_in s) (number_or 1 64 2 (value_in s.valued (codes "workers"))))
+live_in words = and_then (said live_command words) (λ s. live_form s.names (rates_from (value_in s.valued)) (number_or 1 64 2 (value_in s.valued (codes "workers"))))
+
+-- a flag of a command, and whether it was given
+abbrev pub HasFlag : Found → Word → Bool → Type 0
+HasFlag found flag given = one_text found flag ≡ Some (bool_text given)

@@ -1,3 +1,4 @@
+use Rattle.std.specs.Prelude.{◌≡◌, Option, option_map}
 use Rattle.command_words.specs.declared.forms.Form.{Form as Line}
 use Rattle.command_words.specs.declared.forms.Form.TheVariants as line
 use Rattle.command_words.specs.Commands.{Form, Run, Audit, Walk, Gen, Live}
@@ -9,3 +10,7 @@ shown_form (line.Audit graph fleet journal params) = Audit graph.now fleet.now j
 shown_form (line.Walk graph from to) = Walk graph.now from to
 shown_form (line.Gen number) = Gen number
 shown_form (line.Live graph fleet stream params workers) = Live graph.now fleet.now stream.now params workers
+
+-- the code's answer stands for this form, or for none
+abbrev pub Shows : Option Form → Option Line → Type 0
+Shows form answer = option_map shown_form answer ≡ form

@@ -1,11 +1,9 @@
-// Which form a command line is.
-ghost use Rattle.std.specs.Prelude.{◌≡◌, Bool, IfOk, Some, codes, drop, map, option_map};
+ghost use Rattle.std.specs.Prelude.{Bool, IfOk, codes, drop, map};
 ghost use Rattle.std.specs.String.{string_bytes};
-ghost use Rattle.clap.specs.Words.{first_value, found_of, one_text};
-ghost use Rattle.clap.specs.Values.{bool_text};
+ghost use Rattle.clap.specs.Words.{first_value, found_of};
 ghost use Rattle.command_words.specs.Commands.{form_of};
-ghost use Rattle.command_words.specs.Reading.{audit_by, audit_in, gen_by, gen_in, live_by, live_in, run_by, run_in, walk_by, walk_in};
-ghost use Rattle.command_words.specs.Shown.{shown_form};
+ghost use Rattle.command_words.specs.Reading.{HasFlag, audit_by, audit_in, gen_by, gen_in, live_by, live_in, run_by, run_in, walk_by, walk_in};
+ghost use Rattle.command_words.specs.Shown.{Shows};
 
 use crate::forms::Form;
 use crate::words;
@@ -15,7 +13,7 @@ use std::alloc::Global;
 
 /// What the words of a command line ask for, without the program's own name. None where they are no command line.
 pub fn form<'a>(alloc: Global, words: &'a [String]) -> Result<Option<Form<'a>>, NoMemory>
-    ensures { IfOk result (λ f. option_map shown_form f ≡ form_of (map string_bytes words.entry.now)) }
+    ensures { IfOk result (Shows (form_of (map string_bytes words.entry.now))) }
 {
     let Some(mode) = words.first() else {
         return Ok(None);
@@ -31,7 +29,7 @@ pub fn form<'a>(alloc: Global, words: &'a [String]) -> Result<Option<Form<'a>>, 
 }
 
 fn run<'a>(alloc: Global, words: &'a [String]) -> Result<Option<Form<'a>>, NoMemory>
-    ensures { IfOk result (λ f. option_map shown_form f ≡ run_in (drop 1 (map string_bytes words.entry.now))) }
+    ensures { IfOk result (Shows (run_in (drop 1 (map string_bytes words.entry.now)))) }
 {
     let base = words::command(alloc, &["graph", "fleet", "stream"], &words::PARAMETERS)?;
     let optioned = words::with_options(alloc, base, &["window"])?;
@@ -44,8 +42,8 @@ fn run<'a>(alloc: Global, words: &'a [String]) -> Result<Option<Form<'a>>, NoMem
 }
 
 fn run_of<'a>(matches: &ArgMatches<'a>) -> Option<Form<'a>>
-    ensures { (proof : Bool) → one_text (found_of matches.now) (codes "proof") ≡ Some (bool_text proof)
-        → option_map shown_form result ≡ run_by (first_value (found_of matches.now)) proof }
+    ensures { (proof : Bool) → HasFlag (found_of matches.now) (codes "proof") proof
+        → Shows (run_by (first_value (found_of matches.now)) proof) result }
 {
     let graph = matches.get_str("graph")?;
     let fleet = matches.get_str("fleet")?;
@@ -63,7 +61,7 @@ fn run_of<'a>(matches: &ArgMatches<'a>) -> Option<Form<'a>>
 }
 
 fn audit<'a>(alloc: Global, words: &'a [String]) -> Result<Option<Form<'a>>, NoMemory>
-    ensures { IfOk result (λ f. option_map shown_form f ≡ audit_in (drop 1 (map string_bytes words.entry.now))) }
+    ensures { IfOk result (Shows (audit_in (drop 1 (map string_bytes words.entry.now)))) }
 {
     let command = words::command(alloc, &["graph", "fleet", "journal"], &words::PARAMETERS)?;
     match words::matches(command, words) {
@@ -74,7 +72,7 @@ fn audit<'a>(alloc: Global, words: &'a [String]) -> Result<Option<Form<'a>>, NoM
 }
 
 fn audit_of<'a>(matches: &ArgMatches<'a>) -> Option<Form<'a>>
-    ensures { option_map shown_form result ≡ audit_by (first_value (found_of matches.now)) }
+    ensures { Shows (audit_by (first_value (found_of matches.now))) result }
 {
     let graph = matches.get_str("graph")?;
     let fleet = matches.get_str("fleet")?;
@@ -89,7 +87,7 @@ fn audit_of<'a>(matches: &ArgMatches<'a>) -> Option<Form<'a>>
 }
 
 fn walk<'a>(alloc: Global, words: &'a [String]) -> Result<Option<Form<'a>>, NoMemory>
-    ensures { IfOk result (λ f. option_map shown_form f ≡ walk_in (drop 1 (map string_bytes words.entry.now))) }
+    ensures { IfOk result (Shows (walk_in (drop 1 (map string_bytes words.entry.now)))) }
 {
     let command = words::command(alloc, &["graph", "from", "to"], &[])?;
     match words::matches(command, words) {
@@ -100,7 +98,7 @@ fn walk<'a>(alloc: Global, words: &'a [String]) -> Result<Option<Form<'a>>, NoMe
 }
 
 fn walk_of<'a>(matches: &ArgMatches<'a>) -> Option<Form<'a>>
-    ensures { option_map shown_form result ≡ walk_by (first_value (found_of matches.now)) }
+    ensures { Shows (walk_by (first_value (found_of matches.now))) result }
 {
     let graph = matches.get_str("graph")?;
     let from = matches.get_str("from")?;
@@ -111,7 +109,7 @@ fn walk_of<'a>(matches: &ArgMatches<'a>) -> Option<Form<'a>>
 }
 
 fn city<'a>(alloc: Global, words: &'a [String]) -> Result<Option<Form<'a>>, NoMemory>
-    ensures { IfOk result (λ f. option_map shown_form f ≡ gen_in (drop 1 (map string_bytes words.entry.now))) }
+    ensures { IfOk result (Shows (gen_in (drop 1 (map string_bytes words.entry.now)))) }
 {
     let command = words::command(alloc, &["number"], &[])?;
     match words::matches(command, words) {
@@ -122,7 +120,7 @@ fn city<'a>(alloc: Global, words: &'a [String]) -> Result<Option<Form<'a>>, NoMe
 }
 
 fn city_of<'a>(matches: &ArgMatches<'a>) -> Option<Form<'a>>
-    ensures { option_map shown_form result ≡ gen_by (first_value (found_of matches.now)) }
+    ensures { Shows (gen_by (first_value (found_of matches.now))) result }
 {
     let text = matches.get_str("number")?;
     let number = number(text.as_bytes(), u64::MAX)?;
@@ -130,7 +128,7 @@ fn city_of<'a>(matches: &ArgMatches<'a>) -> Option<Form<'a>>
 }
 
 fn live<'a>(alloc: Global, words: &'a [String]) -> Result<Option<Form<'a>>, NoMemory>
-    ensures { IfOk result (λ f. option_map shown_form f ≡ live_in (drop 1 (map string_bytes words.entry.now))) }
+    ensures { IfOk result (Shows (live_in (drop 1 (map string_bytes words.entry.now)))) }
 {
     let base = words::command(alloc, &["graph", "fleet", "stream"], &words::PARAMETERS)?;
     let command = words::with_options(alloc, base, &["workers"])?;
@@ -142,7 +140,7 @@ fn live<'a>(alloc: Global, words: &'a [String]) -> Result<Option<Form<'a>>, NoMe
 }
 
 fn live_of<'a>(matches: &ArgMatches<'a>) -> Option<Form<'a>>
-    ensures { option_map shown_form result ≡ live_by (first_value (found_of matches.now)) }
+    ensures { Shows (live_by (first_value (found_of matches.now))) result }
 {
     let graph = matches.get_str("graph")?;
     let fleet = matches.get_str("fleet")?;

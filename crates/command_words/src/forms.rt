@@ -1,4 +1,3 @@
-// The forms of a command line.
 use stop_schedule::Params;
 
 /// What a command line asks for. Names are as they were written.

@@ -1,4 +1,5 @@
-// What the words of a command line say, read with clap.
+//! What the words of a command line say, read with clap.
+//! The layer above uses that `form` answers the form of the definitions, or none exactly where the words are none of the forms.
 #![tactic(auto)]
 
 mod command_lines;

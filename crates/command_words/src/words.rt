@@ -1,9 +1,8 @@
-// A command's words, read with clap, and the values that its options have.
-ghost use Rattle.std.specs.Prelude.{◌≡◌, [], IfOk, true, map, option_map};
+ghost use Rattle.std.specs.Prelude.{◌≡◌, [], IfOk, IsErr, IsOk, true, map, option_map};
 ghost use Rattle.std.specs.String.{string_bytes};
 ghost use Rattle.clap.specs.Words.{app_of, first_value, found_of, is_simple_and_free, rows_of};
-ghost use Rattle.command_words.specs.Commands.{number_or, optional_within, within};
-ghost use Rattle.command_words.specs.Reading.{answer_of, app_for, flag_rule, name_rule, rates_by, value_rule, with_rules};
+ghost use Rattle.command_words.specs.Commands.{number_or, optional_within, rates_from, within};
+ghost use Rattle.command_words.specs.Reading.{answer_of, app_for, flag_rule, name_rule, value_rule, with_rules};
 
 use clap::error::ErrorKind;
 use clap::{Arg, ArgAction, ArgMatches, Command};
@@ -28,7 +27,8 @@ pub fn command<'a>(
     names: &[&'a str],
     valued: &[&'a str],
 ) -> Result<Command<'a>, NoMemory>
-    ensures { IfOk result (λ c. app_of c ≡ app_for (map (λ s. s.now) names.now) (map (λ s. s.now) valued.now) []) }
+    ensures { IfOk result (λ c. app_of c
+        ≡ app_for (map (λ s. s.now) names.now) (map (λ s. s.now) valued.now) []) }
 {
     let bare = Command::new(alloc, "vaugrenis").disable_help_flag(true);
     let named = with_names(alloc, bare, names)?;
@@ -41,7 +41,8 @@ fn with_names<'a>(
     mut command: Command<'a>,
     names: &[&'a str],
 ) -> Result<Command<'a>, NoMemory>
-    ensures { IfOk result (λ c. app_of c ≡ with_rules (app_of command.entry) (map (λ s. name_rule s.now) names.now)) }
+    ensures { IfOk result (λ c. app_of c
+        ≡ with_rules (app_of command.entry) (map (λ s. name_rule s.now) names.now)) }
 {
     for name in names {
         command = command.arg(Arg::new(alloc, name).action(ArgAction::Set))?;
@@ -55,7 +56,8 @@ pub fn with_options<'a>(
     mut command: Command<'a>,
     names: &[&'a str],
 ) -> Result<Command<'a>, NoMemory>
-    ensures { IfOk result (λ c. app_of c ≡ with_rules (app_of command.entry) (map (λ s. value_rule s.now) names.now)) }
+    ensures { IfOk result (λ c. app_of c
+        ≡ with_rules (app_of command.entry) (map (λ s. value_rule s.now) names.now)) }
 {
     for name in names {
         command = command.arg(Arg::new(alloc, name).long(name).action(ArgAction::Set))?;
@@ -69,7 +71,8 @@ pub fn with_flags<'a>(
     mut command: Command<'a>,
     names: &[&'a str],
 ) -> Result<Command<'a>, NoMemory>
-    ensures { IfOk result (λ c. app_of c ≡ with_rules (app_of command.entry) (map (λ s. flag_rule s.now) names.now)) }
+    ensures { IfOk result (λ c. app_of c
+        ≡ with_rules (app_of command.entry) (map (λ s. flag_rule s.now) names.now)) }
 {
     for name in names {
         command = command.arg(Arg::new(alloc, name).long(name).action(ArgAction::SetTrue))?;
@@ -83,14 +86,26 @@ pub fn matches<'a>(
     words: &'a [String],
 ) -> Result<Option<ArgMatches<'a>>, NoMemory>
     requires { is_simple_and_free (app_of command) ≡ true }
-    ensures { IfOk result (λ r. option_map (λ m. rows_of (found_of m)) r ≡ answer_of (app_of command.entry) (map string_bytes words.entry.now)) }
+    ensures { IfOk result (λ r. option_map (λ m. rows_of (found_of m)) r
+        ≡ answer_of (app_of command.entry) (map string_bytes words.entry.now)) }
 {
     match command.try_get_matches_from(words) {
         Ok(matches) => Ok(Some(matches)),
-        Err(error) => match error.kind() {
-            ErrorKind::OutOfMemory => Err(AllocError),
-            _ => Ok(None),
+        Err(error) => match refused(error.kind()) {
+            Ok(()) => Ok(None),
+            Err(error) => Err(error),
         },
+    }
+}
+
+/// What a fault of clap's comes to: want of memory is handed on, and at any other fault the words are no form.
+fn refused(kind: ErrorKind) -> Result<(), NoMemory>
+    ensures memory { kind ≡ ErrorKind.OutOfMemory → IsErr result }
+    ensures other { (kind ≡ ErrorKind.OutOfMemory → ⊥) → IsOk result }
+{
+    match kind {
+        ErrorKind::OutOfMemory => Err(AllocError),
+        _ => Ok(()),
     }
 }
 
@@ -120,7 +135,7 @@ pub fn number_of_option(
 
 /// The parameters of a command, each that isn't given as usual. None where one is no number or out of its range.
 pub fn params(matches: &ArgMatches) -> Option<Params>
-    ensures { result ≡ rates_by (first_value (found_of matches.now)) }
+    ensures { result ≡ rates_from (first_value (found_of matches.now)) }
 {
     let stop = number_of_option(matches, "stop", 0, 65536, 2)?;
     let wait = number_of_option(matches, "wait", 0, 65536, 20)?;

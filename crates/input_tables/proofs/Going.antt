@@ -7,19 +7,20 @@ use Rattle.std.proofs.lemmas.Option.{same_Some}
 use Rattle.ride_base.specs.Fields.{is_number, value_of}
 use Rattle.ride_base.specs.declared.numbers.VehicleNo.{VehicleNo}
 use Rattle.stop_schedule.specs.declared.vehicle.Vehicle.{Vehicle}
+use Rattle.stop_schedule.specs.Limits.{most_vehicles}
 use Rattle.input_tables.specs.declared.faults.FleetFault.{FleetFault}
 use Rattle.input_tables.specs.declared.faults.FleetFault.TheVariants.{Form, Range, Double}
-use Rattle.input_tables.specs.Fleets.{without_blanks, vehicle_in, vehicles_in, onto_vehicles, checked, vehicle_of, is_in_range, stood_before, most_vehicles}
+use Rattle.input_tables.specs.Fleets.{without_blanks, vehicle_in, vehicles_in, onto_vehicles, checked, vehicle_of, is_in_range, stood_before, row_fields}
 use Rattle.input_tables.specs.Rows.{Keeps, kept_of}
 use Rattle.input_tables.proofs.Cutting.{first_of, rest_of}
 
 -- The rows that are read so far, and those that are left.
 
 -- the vehicles of the rows so far are kept, and with the rows that are left they say what the whole table does
-pub record RowsSoFar (nodes row : ℕ) (kept : BTreeMap VehicleNo Vehicle) (left whole : List (List (List ℕ))) : Type 0 where
+pub record RowsSoFar (spaces : Bool) (nodes row : ℕ) (kept : BTreeMap VehicleNo Vehicle) (left whole : List (List (List ℕ))) : Type 0 where
   pub before : List Vehicle
   pub keeps : Keeps kept before
-  pub rest : vehicles_in nodes row before left ≡ vehicles_in nodes 1 [] whole
+  pub rest : vehicles_in spaces nodes row before left ≡ vehicles_in spaces nodes 1 [] whole
   pub early : row ≤ most_vehicles + 1
 
 -- what is known of a vehicle that a row gives
@@ -53,28 +54,30 @@ given nodes row before (a ∷ []) v h = absurd (cc)
 given nodes row before (a ∷ b ∷ []) v h = absurd (cc)
 given nodes row before (a ∷ b ∷ c ∷ []) v h = absurd (cc)
 given nodes row before (a ∷ b ∷ c ∷ d ∷ []) v h = absurd (cc)
-given nodes row before (a ∷ b ∷ c ∷ d ∷ e ∷ []) v h =
-    given_by nodes row before v (vehicle_of (value_of a) (value_of b) (value_of c) (value_of d) (value_of e)) (is_number a && (is_number b && (is_number c && (is_number d && is_number e)))) h
-given nodes row before (a ∷ b ∷ c ∷ d ∷ e ∷ f ∷ more) v h = absurd (cc)
+given nodes row before (a ∷ b ∷ c ∷ d ∷ e ∷ []) v h = absurd (cc)
+given nodes row before (a ∷ b ∷ c ∷ d ∷ e ∷ f ∷ []) v h =
+    given_by nodes row before v (vehicle_of (value_of a) (value_of b) (value_of c) (value_of d) (value_of e) (value_of f))
+    (is_number a && (is_number b && (is_number c && (is_number d && (is_number e && is_number f))))) h
+given nodes row before (a ∷ b ∷ c ∷ d ∷ e ∷ f ∷ g ∷ more) v h = absurd (cc)
 
 -- a row more
-pub row_more : (nodes row : ℕ) (kept kept' : BTreeMap VehicleNo Vehicle) (left left' whole : List (List (List ℕ))) (fields : List (List ℕ)) (v : Vehicle) (so_far : RowsSoFar nodes row kept left whole)
-    → left ≡ fields ∷ left' → Ok v ≡ vehicle_in nodes row so_far.before (map without_blanks fields) → Keeps kept' (so_far.before ++ v ∷ []) → RowsSoFar nodes (row + 1) kept' left' whole
-row_more nodes row kept kept' left left' whole fields v so_far e ok keeps =
-    let early : row ≤ most_vehicles = (given nodes row so_far.before (map without_blanks fields) v (sym ok)).early in
+pub row_more : (spaces : Bool) (nodes row : ℕ) (kept kept' : BTreeMap VehicleNo Vehicle) (left left' whole : List (List (List ℕ))) (fields : List (List ℕ)) (v : Vehicle) (so_far : RowsSoFar spaces nodes row kept left whole)
+    → left ≡ fields ∷ left' → Ok v ≡ vehicle_in nodes row so_far.before (row_fields spaces (map without_blanks fields)) → Keeps kept' (so_far.before ++ v ∷ []) → RowsSoFar spaces nodes (row + 1) kept' left' whole
+row_more spaces nodes row kept kept' left left' whole fields v so_far e ok keeps =
+    let early : row ≤ most_vehicles = (given nodes row so_far.before (row_fields spaces (map without_blanks fields)) v (sym ok)).early in
     record {
       before = so_far.before ++ v ∷ [];
       keeps = keeps;
-      rest = ap (λ (r : Result Vehicle FleetFault). onto_vehicles r (λ w. vehicles_in nodes (row + 1) (so_far.before ++ w ∷ []) left')) ok ∙ ap (vehicles_in nodes row so_far.before) (sym e) ∙ so_far.rest;
+      rest = ap (λ (r : Result Vehicle FleetFault). onto_vehicles r (λ w. vehicles_in spaces nodes (row + 1) (so_far.before ++ w ∷ []) left')) ok ∙ ap (vehicles_in spaces nodes row so_far.before) (sym e) ∙ so_far.rest;
       early = omega arith;
     }
 
 -- a row that is none
-pub row_refused : (nodes row : ℕ) (kept : BTreeMap VehicleNo Vehicle) (left left' whole : List (List (List ℕ))) (fields : List (List ℕ)) (why : FleetFault) (so_far : RowsSoFar nodes row kept left whole)
-    → left ≡ fields ∷ left' → Err why ≡ vehicle_in nodes row so_far.before (map without_blanks fields) → vehicles_in nodes 1 [] whole ≡ Err why
-row_refused nodes row kept left left' whole fields why so_far e refused =
-    sym so_far.rest ∙ ap (vehicles_in nodes row so_far.before) e ∙ ap (λ (r : Result Vehicle FleetFault). onto_vehicles r (λ w. vehicles_in nodes (row + 1) (so_far.before ++ w ∷ []) left')) (sym refused)
+pub row_refused : (spaces : Bool) (nodes row : ℕ) (kept : BTreeMap VehicleNo Vehicle) (left left' whole : List (List (List ℕ))) (fields : List (List ℕ)) (why : FleetFault) (so_far : RowsSoFar spaces nodes row kept left whole)
+    → left ≡ fields ∷ left' → Err why ≡ vehicle_in nodes row so_far.before (row_fields spaces (map without_blanks fields)) → vehicles_in spaces nodes 1 [] whole ≡ Err why
+row_refused spaces nodes row kept left left' whole fields why so_far e refused =
+    sym so_far.rest ∙ ap (vehicles_in spaces nodes row so_far.before) e ∙ ap (λ (r : Result Vehicle FleetFault). onto_vehicles r (λ w. vehicles_in spaces nodes (row + 1) (so_far.before ++ w ∷ []) left')) (sym refused)
 
 -- no row is left
-pub rows_end : (nodes row : ℕ) (kept : BTreeMap VehicleNo Vehicle) (left whole : List (List (List ℕ))) → RowsSoFar nodes row kept left whole → left ≡ [] → kept_of (vehicles_in nodes 1 [] whole) ≡ Ok kept.entries
-rows_end nodes row kept left whole so_far e = ap kept_of (sym so_far.rest ∙ ap (vehicles_in nodes row so_far.before) e) ∙ ap Ok (sym so_far.keeps)
+pub rows_end : (spaces : Bool) (nodes row : ℕ) (kept : BTreeMap VehicleNo Vehicle) (left whole : List (List (List ℕ))) → RowsSoFar spaces nodes row kept left whole → left ≡ [] → kept_of (vehicles_in spaces nodes 1 [] whole) ≡ Ok kept.entries
+rows_end spaces nodes row kept left whole so_far e = ap kept_of (sym so_far.rest ∙ ap (vehicles_in spaces nodes row so_far.before) e) ∙ ap Ok (sym so_far.keeps)

@@ -1,7 +1,7 @@
-pub mod Cutting
-pub mod Going
-pub mod Keeping
-pub mod Riding
-pub mod Rising
-pub mod Rowing
-pub mod Stepping
+mod Cutting
+mod Going
+mod Keeping
+mod Riding
+mod Rising
+mod Rowing
+mod Stepping

@@ -6,11 +6,11 @@ use Rattle.std.specs.Result.{result_ok}
 use Rattle.std.proofs.lemmas.Bool.Decides.{nat_tests}
 use Rattle.std.proofs.lemmas.Option.{same_Some}
 use Rattle.ride_base.specs.declared.numbers.VehicleNo.{VehicleNo}
-use Rattle.stop_schedule.specs.Bounds.{IsVehicle}
+use Rattle.stop_schedule.specs.Bounds.{IsVehicle, AreVehicles}
+use Rattle.stop_schedule.specs.Limits.{most_vehicles}
 use Rattle.stop_schedule.specs.declared.vehicle.Vehicle.{Vehicle}
 use Rattle.input_tables.specs.declared.faults.FleetFault.{FleetFault}
-use Rattle.input_tables.specs.Fleets.{without_blanks, vehicle_in, vehicles_in, fleet_in, ordered, is_in_range, stood_before, put_in, by_number, onto_vehicles, most_vehicles}
-use Rattle.input_tables.specs.Refusals.{AreVehicles}
+use Rattle.input_tables.specs.Fleets.{without_blanks, vehicle_in, vehicles_in, fleet_in, ordered, is_in_range, stood_before, put_in, by_number, onto_vehicles, row_fields}
 use Rattle.input_tables.specs.Rows.{IsHeaded, entry_of, kept_of}
 use Rattle.input_tables.specs.Streams.{largest_32, largest_moment}
 use Rattle.input_tables.proofs.Cutting.{first_of, rest_of}
@@ -32,13 +32,15 @@ in_ranges nodes v h =
     let h4 = rest_of (nat_le 1 v.seats) _ h3 in
     let h5 = rest_of (nat_le v.seats 16) _ h4 in
     let h6 = rest_of (nat_le v.from largest_moment) _ h5 in
+    let h7 = rest_of (nat_le v.until largest_moment) _ h6 in
     record {
       number = at_most 1 v.no.0 (first_of (nat_le 1 v.no.0) _ h);
       start_from_1 = at_most 1 v.start.0 (first_of (nat_le 1 v.start.0) _ start);
       start_to_last = at_most v.start.0 nodes (rest_of (nat_le 1 v.start.0) _ start);
       some_seat = at_most 1 v.seats (first_of (nat_le 1 v.seats) _ h3);
       few_seats = at_most v.seats 16 (first_of (nat_le v.seats 16) _ h4);
-      ordered = at_most v.from v.until (rest_of (nat_le v.until largest_moment) _ h6);
+      few_spaces = at_most v.spaces 16 (rest_of (nat_le v.from v.until) _ h7);
+      ordered = at_most v.from v.until (first_of (nat_le v.from v.until) _ h7);
       until = at_most v.until (2 ^ 40) (first_of (nat_le v.until largest_moment) _ h6);
     }
 
@@ -111,15 +113,15 @@ table_more nodes row before v t g =
     }
 
 -- a table that is read to its end
-table_all : (nodes row : ℕ) (before : List Vehicle) (rows : List (List (List ℕ))) (all : List Vehicle) → IsTable nodes row before → vehicles_in nodes row before rows ≡ Ok all → (last : ℕ) × IsTable nodes last all
-table_all nodes row before [] all t e = (row, subst (IsTable nodes row) (same_Some _ _ (ap result_ok e)) t)
-table_all nodes row before (fields ∷ rows) all t e =
-    by (vehicle_in nodes row before (map without_blanks fields)) refl e (λ v u h. table_all nodes (row + 1) (before ++ v ∷ []) rows all u h)
+table_all : (spaces : Bool) (nodes row : ℕ) (before : List Vehicle) (rows : List (List (List ℕ))) (all : List Vehicle) → IsTable nodes row before → vehicles_in spaces nodes row before rows ≡ Ok all → (last : ℕ) × IsTable nodes last all
+table_all spaces nodes row before [] all t e = (row, subst (IsTable nodes row) (same_Some _ _ (ap result_ok e)) t)
+table_all spaces nodes row before (fields ∷ rows) all t e =
+    by (vehicle_in nodes row before (row_fields spaces (map without_blanks fields))) refl e (λ v u h. table_all spaces nodes (row + 1) (before ++ v ∷ []) rows all u h)
   where
-    by : (r : Result Vehicle FleetFault) → vehicle_in nodes row before (map without_blanks fields) ≡ r → onto_vehicles r (λ v. vehicles_in nodes (row + 1) (before ++ v ∷ []) rows) ≡ Ok all
-        → ((v : Vehicle) → IsTable nodes (row + 1) (before ++ v ∷ []) → vehicles_in nodes (row + 1) (before ++ v ∷ []) rows ≡ Ok all → (last : ℕ) × IsTable nodes last all)
+    by : (r : Result Vehicle FleetFault) → vehicle_in nodes row before (row_fields spaces (map without_blanks fields)) ≡ r → onto_vehicles r (λ v. vehicles_in spaces nodes (row + 1) (before ++ v ∷ []) rows) ≡ Ok all
+        → ((v : Vehicle) → IsTable nodes (row + 1) (before ++ v ∷ []) → vehicles_in spaces nodes (row + 1) (before ++ v ∷ []) rows ≡ Ok all → (last : ℕ) × IsTable nodes last all)
         → (last : ℕ) × IsTable nodes last all
-    by (Ok v) i h more = more v (table_more nodes row before v t (given nodes row before (map without_blanks fields) v i)) h
+    by (Ok v) i h more = more v (table_more nodes row before v t (given nodes row before (row_fields spaces (map without_blanks fields)) v i)) h
     by (Err why) i h more = absurd (cc)
 
 each_ranged : (nodes : ℕ) (vs : List Vehicle) → Ranged nodes vs → (k : ℕ) (v : Vehicle) → slice_get vs k ≡ Some v → IsVehicle nodes v
@@ -154,8 +156,8 @@ empty_table : (nodes : ℕ) → IsTable nodes 1 []
 empty_table nodes = record { ranged = tt; rises = tt; count = refl; early = omega arith }
 
 -- the vehicles that a table's rows give
-pub are_vehicles : (nodes : ℕ) (rows : List (List (List ℕ))) (all : List Vehicle) → vehicles_in nodes 1 [] rows ≡ Ok all → AreVehicles nodes (by_number all)
-are_vehicles nodes rows all e = let (last, t) = table_all nodes 1 [] rows all (empty_table nodes) e in are_sorted nodes last all t
+pub are_vehicles : (spaces : Bool) (nodes : ℕ) (rows : List (List (List ℕ))) (all : List Vehicle) → vehicles_in spaces nodes 1 [] rows ≡ Ok all → AreVehicles nodes (by_number all)
+are_vehicles spaces nodes rows all e = let (last, t) = table_all spaces nodes 1 [] rows all (empty_table nodes) e in are_sorted nodes last all t
 
 values_sorted : (vs : List Vehicle) → values_of (map entry_of vs) ≡ vs
 values_sorted [] = refl
@@ -170,14 +172,14 @@ all_rows (Ok all) kept vehicles h e = (all, refl, e ∙ ap values_of (sym (same_
 all_rows (Err why) kept vehicles h e = absurd (cc)
 
 -- a table that is read whole
-pub whole_table : (nodes : ℕ) (records rows : List (List (List ℕ))) (kept : BTreeMap VehicleNo Vehicle) (vehicles : List Vehicle) → IsHeaded records rows → kept_of (vehicles_in nodes 1 [] rows) ≡ Ok kept.entries
+pub whole_table : (spaces : Bool) (nodes : ℕ) (records rows : List (List (List ℕ))) (kept : BTreeMap VehicleNo Vehicle) (vehicles : List Vehicle) → IsHeaded records spaces rows → kept_of (vehicles_in spaces nodes 1 [] rows) ≡ Ok kept.entries
     → vehicles ≡ values kept → fleet_in nodes records ≡ Ok vehicles
-whole_table nodes records rows kept vehicles headed h e =
-    let (all, read, sorted) = all_rows (vehicles_in nodes 1 [] rows) kept vehicles h e in
+whole_table spaces nodes records rows kept vehicles headed h e =
+    let (all, read, sorted) = all_rows (vehicles_in spaces nodes 1 [] rows) kept vehicles h e in
     headed nodes ∙ ap ordered read ∙ ap Ok (sym sorted)
 
-pub whole_vehicles : (nodes : ℕ) (rows : List (List (List ℕ))) (kept : BTreeMap VehicleNo Vehicle) (vehicles : List Vehicle) → kept_of (vehicles_in nodes 1 [] rows) ≡ Ok kept.entries → vehicles ≡ values kept
+pub whole_vehicles : (spaces : Bool) (nodes : ℕ) (rows : List (List (List ℕ))) (kept : BTreeMap VehicleNo Vehicle) (vehicles : List Vehicle) → kept_of (vehicles_in spaces nodes 1 [] rows) ≡ Ok kept.entries → vehicles ≡ values kept
     → AreVehicles nodes vehicles
-whole_vehicles nodes rows kept vehicles h e =
-    let (all, read, sorted) = all_rows (vehicles_in nodes 1 [] rows) kept vehicles h e in
-    subst (AreVehicles nodes) (sym sorted) (are_vehicles nodes rows all read)
+whole_vehicles spaces nodes rows kept vehicles h e =
+    let (all, read, sorted) = all_rows (vehicles_in spaces nodes 1 [] rows) kept vehicles h e in
+    subst (AreVehicles nodes) (sym sorted) (are_vehicles spaces nodes rows all read)

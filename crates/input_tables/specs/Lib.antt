@@ -1,3 +1,4 @@
+pub mod Events
 pub mod Fleets
 pub mod Numbers
 pub mod Records

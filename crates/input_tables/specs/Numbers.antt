@@ -1,5 +1,5 @@
-use Rattle.std.specs.Prelude.{ℕ, List, [], ◌∷◌, Option, Some, None, Result, Err}
-use Rattle.ride_base.specs.Fields.{capped_of}
+use Rattle.std.specs.Prelude.{◌≡◌, ℕ, List, [], ◌∷◌, Option, Some, None, Result, Ok, Err}
+use Rattle.ride_base.specs.Fields.{capped_of, fields_of}
 use Rattle.input_tables.specs.declared.faults.StreamFault.{StreamFault}
 use Rattle.input_tables.specs.declared.faults.StreamFault.TheVariants.{Form}
 use Rattle.input_tables.specs.declared.lines.StreamLine.{StreamLine}
@@ -32,5 +32,16 @@ GoesOn (Some (number ∷ numbers)) = Unit {0}
 
 -- what these numbers behind an `r` say
 abbrev pub ride_with : Option (List ℕ) → Result StreamLine StreamFault
-ride_with (Some (number ∷ pickup ∷ dropoff ∷ moment ∷ riders ∷ [])) = ranged_ride number pickup dropoff moment riders
+ride_with (Some (number ∷ pickup ∷ dropoff ∷ moment ∷ riders ∷ spaces ∷ [])) = ranged_ride number pickup dropoff moment riders spaces
+ride_with (Some (number ∷ pickup ∷ dropoff ∷ moment ∷ riders ∷ [])) = ranged_ride number pickup dropoff moment riders 0
 ride_with numbers = Err Form
+
+-- the one number that is left, or 0 where none is
+abbrev pub last_number_of : Option (List ℕ) → Result ℕ StreamFault
+last_number_of (Some []) = Ok 0
+last_number_of (Some (number ∷ [])) = Ok number
+last_number_of numbers = Err Form
+
+-- the first of the fields is this number, cut at the largest of 64 bits, and these stand behind it
+abbrev pub HasNumber : List ℕ → ℕ → List ℕ → Type 0
+HasNumber fields number rest = numbers_of (fields_of fields) ≡ before (Some number) (numbers_of (fields_of rest))

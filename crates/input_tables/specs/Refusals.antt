@@ -1,9 +1,10 @@
-use Rattle.std.specs.Prelude.{◌≡◌, ℕ, suc, ◌<◌, ◌≤◌, ◌++◌, List, length, Option, Some, slice_get}
+use Rattle.std.specs.Prelude.{◌≡◌, ℕ, ◌≤◌, ◌++◌, List, length, Option, Some, Result, Ok, Err}
+use Rattle.ride_base.specs.declared.lines.LineFault.{LineFault}
+use Rattle.ride_base.specs.declared.lines.LineFault.TheVariants as line
 use Rattle.stop_schedule.specs.declared.vehicle.Vehicle.{Vehicle}
-use Rattle.stop_schedule.specs.Bounds.{IsVehicle}
 use Rattle.input_tables.specs.declared.faults.FleetFault.{FleetFault}
 use Rattle.input_tables.specs.declared.faults.FleetFault.TheVariants.{Fault, Large, Header, Form, Range, Double, NoMemory}
-use Rattle.input_tables.specs.Fleets.{largest_fleet_text, most_vehicles}
+use Rattle.input_tables.specs.Fleets.{largest_fleet_text, fleet_in, fleet_of}
 
 -- a fault by which the text itself is refused
 abbrev pub IsRefusal : FleetFault → Type 0
@@ -19,8 +20,24 @@ IsRefusal NoMemory = ⊥
 abbrev pub IsReadWithin : (text : List ℕ) (left : Option (List ℕ)) → Type 0
 IsReadWithin text left = (read rest : List ℕ) × (left ≡ Some rest) × (text ≡ read ++ rest) × (length read ≤ largest_fleet_text)
 
--- vehicles in their ranges, not too many, with numbers that rise
-pub record AreVehicles (nodes : ℕ) (vehicles : List Vehicle) : Type 0 where
-  pub few : length vehicles ≤ most_vehicles
-  pub each : (k : ℕ) (v : Vehicle) → slice_get vehicles k ≡ Some v → IsVehicle nodes v
-  pub rising : (k : ℕ) (v w : Vehicle) → slice_get vehicles k ≡ Some v → slice_get vehicles (suc k) ≡ Some w → v.no.0 < w.no.0
+-- the text is a table of these vehicles, and it is refused by this fault
+abbrev pub HasFleet : (nodes : ℕ) → List Vehicle → List ℕ → Type 0
+HasFleet nodes vehicles text = fleet_of nodes text ≡ Ok vehicles
+
+abbrev pub IsRefusedAs : (nodes : ℕ) → FleetFault → List ℕ → Type 0
+IsRefusedAs nodes fault text = fleet_of nodes text ≡ Err fault
+
+-- a fault that refuses the text is what the definition answers
+abbrev pub Refuses : {X : Type 0} → Result X FleetFault → FleetFault → Type 0
+Refuses answer fault = IsRefusal fault → answer ≡ Err fault
+
+-- the same for the records of a table over any number of nodes
+abbrev pub RefusesRecords : List (List (List ℕ)) → FleetFault → Type 0
+RefusesRecords records fault = IsRefusal fault → (nodes : ℕ) → fleet_in nodes records ≡ Err fault
+
+-- What the table's fault is where its text can't be read. A text that is read whole has no long line.
+abbrev pub fault_of_text : LineFault → FleetFault
+fault_of_text line.Fault = Fault
+fault_of_text line.Long = NoMemory
+fault_of_text line.Large = Large
+fault_of_text line.NoMemory = NoMemory

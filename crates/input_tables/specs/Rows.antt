@@ -1,4 +1,4 @@
-use Rattle.std.specs.Prelude.{◌≡◌, ℕ, ◌==◌, ◌&&◌, Bool, false, cond, List, [], length, map, Option, Some, None, Result, Ok, Err, codes}
+use Rattle.std.specs.Prelude.{◌≡◌, ℕ, ◌==◌, ◌&&◌, Bool, true, false, cond, List, [], length, map, Option, Some, None, Result, Ok, Err, codes}
 use Rattle.std.specs.Str.{bytes_eq}
 use Rattle.std.specs.BTreeMap.{BTreeMap}
 use Rattle.csv.specs.Records.{field_at}
@@ -16,34 +16,49 @@ abbrev pub is_named : Option (List ℕ) → List ℕ → Bool
 is_named None name = false
 is_named (Some field) name = bytes_eq (without_blanks field) name
 
--- a record of five that are named as the header's
-abbrev pub is_headed : List (List ℕ) → Bool
-is_headed fields =
-    (length fields == 5) && (is_named (field_at fields 0) (codes "vehicle") && (is_named (field_at fields 1) (codes "start") && (is_named (field_at fields 2) (codes "seats")
-    && (is_named (field_at fields 3) (codes "from") && is_named (field_at fields 4) (codes "until")))))
+-- the first five fields of a record are named as a header's
+abbrev pub begins_header : List (List ℕ) → Bool
+begins_header fields =
+    is_named (field_at fields 0) (codes "vehicle") && (is_named (field_at fields 1) (codes "start") && (is_named (field_at fields 2) (codes "seats")
+    && (is_named (field_at fields 3) (codes "from") && is_named (field_at fields 4) (codes "until"))))
+
+-- what the record tells as a header, where it is one
+abbrev pub headed_by : List (List ℕ) → Option Bool
+headed_by fields =
+    cond (begins_header fields)
+    (cond (length fields == 5) (Some false) (cond ((length fields == 6) && is_named (field_at fields 5) (codes "spaces")) (Some true) None)) None
 
 -- the first of the records is the header, and the others are rows
-abbrev pub IsHeaded : List (List (List ℕ)) → List (List (List ℕ)) → Type 0
-IsHeaded records rows = (nodes : ℕ) → fleet_in nodes records ≡ ordered (vehicles_in nodes 1 [] rows)
+abbrev pub IsHeaded : List (List (List ℕ)) → (spaces : Bool) → List (List (List ℕ)) → Type 0
+IsHeaded records spaces rows = (nodes : ℕ) → fleet_in nodes records ≡ ordered (vehicles_in spaces nodes 1 [] rows)
 
 -- the number in a field, where there is one, cut at the largest of 64 bits
 abbrev pub number_in : Option (List ℕ) → Option ℕ
 number_in None = None
 number_in (Some field) = capped_of (without_blanks field)
 
-abbrev pub five_numbers : (number start seats from until : Option ℕ) → Option RowNumbers
-five_numbers (Some number) (Some start) (Some seats) (Some from) (Some until) = Some (record { number = number; start = start; seats = seats; from = from; until = until })
-five_numbers number start seats from until = None
+abbrev pub six_numbers : (number start seats from until spaces : Option ℕ) → Option RowNumbers
+six_numbers (Some number) (Some start) (Some seats) (Some from) (Some until) (Some spaces) =
+    Some (record { number = number; start = start; seats = seats; from = from; until = until; spaces = spaces })
+six_numbers number start seats from until spaces = None
 
--- the numbers of a row of five
-abbrev pub row_of : List (List ℕ) → Option RowNumbers
-row_of fields =
-    cond (length fields == 5)
-    (five_numbers (number_in (field_at fields 0)) (number_in (field_at fields 1)) (number_in (field_at fields 2)) (number_in (field_at fields 3)) (number_in (field_at fields 4))) None
+-- how many fields a row has, and how many wheelchair spaces it tells
+abbrev pub field_count : (spaces : Bool) → ℕ
+field_count spaces = cond spaces 6 5
+
+abbrev pub spaces_in : (spaces : Bool) → List (List ℕ) → Option ℕ
+spaces_in true fields = number_in (field_at fields 5)
+spaces_in false fields = Some 0
+
+-- the numbers of a row
+abbrev pub row_of : (spaces : Bool) → List (List ℕ) → Option RowNumbers
+row_of spaces fields =
+    cond (length fields == field_count spaces)
+    (six_numbers (number_in (field_at fields 0)) (number_in (field_at fields 1)) (number_in (field_at fields 2)) (number_in (field_at fields 3)) (number_in (field_at fields 4)) (spaces_in spaces fields)) None
 
 -- the vehicle of a row's numbers
 abbrev pub vehicle_by : RowNumbers → Vehicle
-vehicle_by row = vehicle_of row.number row.start row.seats row.from row.until
+vehicle_by row = vehicle_of row.number row.start row.seats row.from row.until row.spaces
 
 -- the vehicle of a row's numbers, where they are in their ranges
 abbrev pub ranged_by : (nodes : ℕ) → RowNumbers → Option Vehicle

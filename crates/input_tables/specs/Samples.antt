@@ -3,7 +3,7 @@ use Rattle.csv.specs.Machine.{next_record}
 use Rattle.csv.specs.Reading.{records_from, strip_bom}
 use Rattle.input_tables.specs.declared.faults.StreamFault.TheVariants.{Form as LineForm, Range as LineRange}
 use Rattle.input_tables.specs.declared.faults.FleetFault.TheVariants.{Header, Form, Range, Double}
-use Rattle.input_tables.specs.declared.lines.StreamLine.TheVariants.{Ride, Move, Nothing}
+use Rattle.input_tables.specs.declared.lines.StreamLine.TheVariants.{Ride, Move, Cancel, Nothing}
 use Rattle.input_tables.specs.Fleets.{fleet_of, vehicle_of}
 use Rattle.input_tables.specs.Streams.{stream_line_of, request_of}
 
@@ -11,8 +11,23 @@ use Rattle.input_tables.specs.Streams.{stream_line_of, request_of}
 abbrev line : List ℕ → List ℕ
 line text = text ++ 10 ∷ []
 
-ride : stream_line_of (codes " r  007 2 4 0" ++ 9 ∷ codes "1 ") ≡ Ok (Ride (request_of 7 2 4 0 1))
+ride : stream_line_of (codes " r  007 2 4 0" ++ 9 ∷ codes "1 ") ≡ Ok (Ride (request_of 7 2 4 0 1 0))
 ride = refl
+
+with_spaces : stream_line_of (codes "r 7 2 4 0 1 02") ≡ Ok (Ride (request_of 7 2 4 0 1 2))
+with_spaces = refl
+
+seven_fields : stream_line_of (codes "r 7 2 4 0 1 2 3") ≡ Err LineForm
+seven_fields = refl
+
+spaces_past_32_bits : stream_line_of (codes "r 7 2 4 0 1 4294967296") ≡ Err LineRange
+spaces_past_32_bits = refl
+
+cancelled : stream_line_of (codes "y 7") ≡ Ok (Cancel (record { 0 = 7 }))
+cancelled = refl
+
+cancelled_past_the_last_number : stream_line_of (codes "y 1099511627777") ≡ Err LineRange
+cancelled_past_the_last_number = refl
 
 move : stream_line_of (codes "t 5") ≡ Ok (Move 5)
 move = refl
@@ -36,12 +51,12 @@ past_the_last_moment = refl
 form_first : stream_line_of (codes "r 1099511627777 2 4 0 x") ≡ Err LineForm
 form_first = refl
 
-one_vehicle : fleet_of 4 (line (codes "vehicle,start,seats,from,until") ++ line (codes "1,1,2,0,1000")) ≡ Ok (vehicle_of 1 1 2 0 1000 ∷ [])
+one_vehicle : fleet_of 4 (line (codes "vehicle,start,seats,from,until") ++ line (codes "1,1,2,0,1000")) ≡ Ok (vehicle_of 1 1 2 0 1000 0 ∷ [])
 unfolding strip_bom records_from next_record
 one_vehicle = refl
 
 -- rows in any order, blanks round fields, a quoted field, and no last line end
-two_vehicles : fleet_of 4 (line (codes "vehicle, start ,seats,from,until") ++ line (codes "\"2\",1,2,0,1000") ++ codes " 1,4,16,7,7") ≡ Ok (vehicle_of 1 4 16 7 7 ∷ vehicle_of 2 1 2 0 1000 ∷ [])
+two_vehicles : fleet_of 4 (line (codes "vehicle, start ,seats,from,until") ++ line (codes "\"2\",1,2,0,1000") ++ codes " 1,4,16,7,7") ≡ Ok (vehicle_of 1 4 16 7 7 0 ∷ vehicle_of 2 1 2 0 1000 0 ∷ [])
 unfolding strip_bom records_from next_record
 two_vehicles = refl
 
@@ -66,7 +81,7 @@ unfolding strip_bom records_from next_record
 no_node_5 = refl
 
 -- a byte order mark, a quoted name, a lone CR as the end of a record, and a byte behind a closing quote
-marked : fleet_of 4 (0xEF ∷ 0xBB ∷ 0xBF ∷ codes "\"vehicle\",start,seats,from,until" ++ 13 ∷ codes "\"1\"2,1,2,0,1000") ≡ Ok (vehicle_of 12 1 2 0 1000 ∷ [])
+marked : fleet_of 4 (0xEF ∷ 0xBB ∷ 0xBF ∷ codes "\"vehicle\",start,seats,from,until" ++ 13 ∷ codes "\"1\"2,1,2,0,1000") ≡ Ok (vehicle_of 12 1 2 0 1000 0 ∷ [])
 unfolding strip_bom records_from next_record
 marked = refl
 
@@ -78,3 +93,20 @@ blank_row = refl
 ends_before_it_begins : fleet_of 4 (line (codes "vehicle,start,seats,from,until") ++ codes "1,1,2,8,7") ≡ Err (Range 1)
 unfolding strip_bom records_from next_record
 ends_before_it_begins = refl
+
+-- a table with wheelchair spaces, in which each row tells them
+spacious : fleet_of 4 (line (codes "vehicle,start,seats,from,until, spaces") ++ line (codes "1,1,2,0,1000,16")) ≡ Ok (vehicle_of 1 1 2 0 1000 16 ∷ [])
+unfolding strip_bom records_from next_record
+spacious = refl
+
+five_of_six : fleet_of 4 (line (codes "vehicle,start,seats,from,until,spaces") ++ line (codes "1,1,2,0,1000")) ≡ Err (Form 1)
+unfolding strip_bom records_from next_record
+five_of_six = refl
+
+too_many_spaces : fleet_of 4 (line (codes "vehicle,start,seats,from,until,spaces") ++ line (codes "1,1,2,0,1000,17")) ≡ Err (Range 1)
+unfolding strip_bom records_from next_record
+too_many_spaces = refl
+
+other_sixth : fleet_of 4 (line (codes "vehicle,start,seats,from,until,space")) ≡ Err Header
+unfolding strip_bom records_from next_record
+other_sixth = refl

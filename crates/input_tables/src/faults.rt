@@ -10,7 +10,7 @@ pub enum FleetFault {
     /// The text has more than 16,777,216 bytes.
     #[error("the table is larger than 16777216 bytes")]
     Large,
-    /// The first record isn't `vehicle,start,seats,from,until`, or there is none.
+    /// The first record isn't `vehicle,start,seats,from,until`, with `,spaces` behind it or not, or there is none.
     #[error("the table doesn't begin with vehicle,start,seats,from,until")]
     Header,
     /// The row hasn't five fields of digits.

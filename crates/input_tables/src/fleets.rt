@@ -1,16 +1,18 @@
-ghost use Rattle.std.specs.Prelude.{◌≡◌, ℕ, ◌≤◌, [], ◌∷◌, ◌++◌, false, IfOk, IfErr, OnOk, OnErr, Ok, Err, List, map};
-ghost use Rattle.csv.specs.Reading.{default_config, records, strip_bom};
+ghost use Rattle.std.specs.Prelude.{◌≡◌, ◌≢◌, ℕ, ◌+◌, [], ◌∷◌, ◌++◌, false, IfOk, IfErr, OnOk, Ok, Err, List};
 ghost use Rattle.csv.specs.Records.{fields_of};
-ghost use Rattle.ride_base.specs.Outside.{Rose, OnlyRead};
+ghost use Rattle.ride_base.specs.Buffers.{CameAtMost};
+ghost use Rattle.ride_base.specs.Outside.{CountRose, CountStays, OnlyRead};
+ghost use Rattle.ride_base.specs.Reader.{longest_read};
 ghost use Rattle.ride_base.specs.Told.{WhereTold};
 ghost use Rattle.stop_schedule.specs.declared.vehicle.Vehicle.{Vehicle};
 ghost use Rattle.std.specs.BTreeMap.{values};
-ghost use Rattle.input_tables.specs.Fleets.{fleet_of, fleet_in, vehicle_in as vehicle_in_row, vehicles_in, without_blanks, stood_before, is_in_range as is_in_range_of};
+ghost use Rattle.input_tables.specs.Fleets.{fleet_in, fleet_in_text, largest_fleet_text, rows_in, vehicle_of_record, stood_before, is_in_range as is_in_range_of};
 ghost use Rattle.input_tables.specs.Records.{IsReading, records_left};
-ghost use Rattle.input_tables.specs.Refusals.{IsReadWithin, IsRefusal, AreVehicles};
+ghost use Rattle.input_tables.specs.Refusals.{HasFleet, IsReadWithin, IsRefusal, IsRefusedAs, Refuses, RefusesRecords, fault_of_text};
+ghost use Rattle.stop_schedule.specs.Bounds.{AreVehicles};
 ghost use Rattle.input_tables.specs.Rows.{IsHeaded, Keeps, kept_of, ranged_by, vehicle_by};
 
-use crate::cells::{RowNumbers, is_header, row_numbers};
+use crate::cells::{RowNumbers, has_spaces, row_numbers};
 use crate::faults::FleetFault;
 use crate::records::{next_record, records_of};
 use csv::{ByteRecord, Reader};
@@ -25,6 +27,7 @@ const LARGEST_TEXT: u64 = 1 << 24;
 
 const MOST_VEHICLES: u64 = 65_536;
 
+/// The most seats of a vehicle, and the most wheelchair spaces.
 const MOST_SEATS: u64 = 16;
 
 /// The largest number of a vehicle.
@@ -45,28 +48,44 @@ pub fn read_fleet<S: Shelf>(
     nodes: u32,
 ) -> Result<Items<Vehicle>, FleetFault>
     requires { S.IsBegun shelf.old }
-    ensures fleet { IfOk result (λ v. WhereTold (S.left shelf.old) (λ text. fleet_of nodes text ≡ Ok v)) }
+    ensures fleet { IfOk result (λ v. WhereTold (S.left shelf.old) (HasFleet nodes v)) }
     ensures vehicles { IfOk result (λ v. AreVehicles nodes v) }
-    ensures refused { IfErr result (λ e. IsRefusal e → WhereTold (S.left shelf.old) (λ text. fleet_of nodes text ≡ Err e)) }
-    ensures fault { result ≡ Err FleetFault.Fault → Rose (S.faults shelf.old) (S.faults shelf.new) }
-    ensures unread { result ≡ Err FleetFault.Fault → WhereTold (S.left shelf.old) (λ text. IsReadWithin text (S.left shelf.new)) }
+    ensures refused { IfErr result (λ e. IsRefusal e
+        → WhereTold (S.left shelf.old) (IsRefusedAs nodes e)) }
+    ensures fault { result ≡ Err FleetFault.Fault → CountRose S.faults shelf.old shelf.new }
+    ensures quiet { S.IsQuiet → result ≢ Err FleetFault.Fault
+        → CountStays S.faults shelf.old shelf.new }
+    ensures unread { result ≡ Err FleetFault.Fault
+        → WhereTold (S.left shelf.old) (λ text. IsReadWithin text (S.left shelf.new)) }
+    ensures near { CameAtMost (largest_fleet_text + longest_read)
+        (S.left shelf.old) (S.left shelf.new) }
     ensures surely { S.IsSure shelf.old → result ≡ Err FleetFault.Fault → ⊥ }
     ensures shelf { OnlyRead S.IsBegun S.held S.names S.IsSure S.faults shelf.old shelf.new }
 {
     match whole(alloc, shelf, LARGEST_TEXT) {
         Ok(text) => vehicles_of(alloc, text.as_slice(), nodes),
-        Err(LineFault::Fault) => Err(FleetFault::Fault),
-        Err(LineFault::Large) => Err(FleetFault::Large),
-        Err(LineFault::NoMemory) => Err(FleetFault::NoMemory),
-        Err(LineFault::Long) => unreachable!(),
+        Err(fault) => Err(fault_of_text(fault)),
+    }
+}
+
+/// What a fault of the text comes to. A text that is read whole has no long line.
+fn fault_of_text(fault: LineFault) -> FleetFault
+    requires { fault ≡ LineFault.Long → ⊥ }
+    ensures { result ≡ fault_of_text fault }
+{
+    match fault {
+        LineFault::Fault => FleetFault::Fault,
+        LineFault::Large => FleetFault::Large,
+        LineFault::NoMemory => FleetFault::NoMemory,
+        LineFault::Long => unreachable!(),
     }
 }
 
 /// The vehicles of a text.
 fn vehicles_of(alloc: Global, text: &[u8], nodes: u32) -> Result<Items<Vehicle>, FleetFault>
-    ensures fleet { IfOk result (λ v. fleet_in nodes (records default_config (strip_bom text.now)) ≡ Ok v) }
+    ensures fleet { IfOk result (λ v. fleet_in_text nodes text.now ≡ Ok v) }
     ensures vehicles { IfOk result (λ v. AreVehicles nodes v) }
-    ensures refused { IfErr result (λ e. IsRefusal e → fleet_in nodes (records default_config (strip_bom text.now)) ≡ Err e) }
+    ensures refused { IfErr result (Refuses (fleet_in_text nodes text.now)) }
     ensures unfailed { result ≡ Err FleetFault.Fault → ⊥ }
 {
     let mut reader = records_of(alloc, text);
@@ -82,30 +101,31 @@ fn read_table(
     requires { IsReading reader.old }
     ensures fleet { IfOk result (λ v. fleet_in nodes (records_left reader.old) ≡ Ok v) }
     ensures vehicles { IfOk result (λ v. AreVehicles nodes v) }
-    ensures refused { IfErr result (λ e. IsRefusal e → fleet_in nodes (records_left reader.old) ≡ Err e) }
+    ensures refused { IfErr result (Refuses (fleet_in nodes (records_left reader.old))) }
     ensures unfailed { result ≡ Err FleetFault.Fault → ⊥ }
 {
     let mut fields = ByteRecord::new(alloc);
-    read_header(reader, &mut fields)?;
-    let vehicles = read_rows(alloc, reader, &mut fields, nodes)?;
+    let spaces = read_header(reader, &mut fields)?;
+    let vehicles = read_rows(alloc, reader, &mut fields, spaces, nodes)?;
     Ok(by_number(alloc, vehicles)?)
 }
 
-/// Reads the first record, which is the header.
-fn read_header(reader: &mut Reader<&[u8]>, fields: &mut ByteRecord) -> Result<(), FleetFault>
+/// Reads the first record, which is the header, and says whether the rows behind it have wheelchair spaces.
+fn read_header(reader: &mut Reader<&[u8]>, fields: &mut ByteRecord) -> Result<bool, FleetFault>
     requires { IsReading reader.old }
     ensures reading { OnOk result (IsReading reader.new) }
-    ensures header { OnOk result (IsHeaded (records_left reader.old) (records_left reader.new)) }
-    ensures refused { IfErr result (λ e. IsRefusal e → (nodes : ℕ) → fleet_in nodes (records_left reader.old) ≡ Err e) }
+    ensures header { IfOk result
+        (λ s. IsHeaded (records_left reader.old) s (records_left reader.new)) }
+    ensures refused { IfErr result (RefusesRecords (records_left reader.old)) }
     ensures unfailed { result ≡ Err FleetFault.Fault → ⊥ }
 {
     if !next_record(reader, fields)? {
         return Err(FleetFault::Header);
     }
-    if !is_header(fields) {
-        return Err(FleetFault::Header);
+    match has_spaces(fields) {
+        Some(spaces) => Ok(spaces),
+        None => Err(FleetFault::Header),
     }
-    Ok(())
 }
 
 /// Reads the rows behind the header.
@@ -113,17 +133,19 @@ fn read_rows(
     alloc: Global,
     reader: &mut Reader<&[u8]>,
     fields: &mut ByteRecord,
+    spaces: bool,
     nodes: u32,
 ) -> Result<Vehicles, FleetFault>
     requires { IsReading reader.old }
-    ensures rows { IfOk result (λ v. kept_of (vehicles_in nodes 1 [] (records_left reader.old)) ≡ Ok v.entries) }
-    ensures refused { IfErr result (λ e. IsRefusal e → vehicles_in nodes 1 [] (records_left reader.old) ≡ Err e) }
+    ensures rows { IfOk result
+        (λ v. kept_of (rows_in spaces nodes (records_left reader.old)) ≡ Ok v.entries) }
+    ensures refused { IfErr result (Refuses (rows_in spaces nodes (records_left reader.old))) }
     ensures unfailed { result ≡ Err FleetFault.Fault → ⊥ }
 {
     let mut vehicles = BTreeMap::new(alloc);
     let mut row: u64 = 1;
     while next_record(reader, fields)? {
-        let vehicle = vehicle_in(fields, row, &vehicles, nodes)?;
+        let vehicle = vehicle_in(fields, spaces, row, &vehicles, nodes)?;
         put(&mut vehicles, vehicle)?;
         row += 1;
     }
@@ -133,14 +155,16 @@ fn read_rows(
 /// The vehicle of a row behind others.
 fn vehicle_in(
     fields: &ByteRecord,
+    spaces: bool,
     row: u64,
     before: &Vehicles,
     nodes: u32,
 ) -> Result<Vehicle, FleetFault>
     ensures refusal { IfErr result IsRefusal }
-    ensures vehicle { (rows : List Vehicle) → Keeps before.now rows → result ≡ vehicle_in_row nodes row rows (map without_blanks (fields_of fields.now)) }
+    ensures vehicle { (rows : List Vehicle) → Keeps before.now rows
+        → result ≡ vehicle_of_record spaces nodes row rows (fields_of fields.now) }
 {
-    let Some(numbers) = row_numbers(fields) else {
+    let Some(numbers) = row_numbers(fields, spaces) else {
         return Err(FleetFault::Form { row });
     };
     let Some(vehicle) = vehicle(&numbers, nodes) else {
@@ -168,6 +192,7 @@ fn is_in_range(numbers: &RowNumbers, nodes: u32) -> bool
         && numbers.from <= LARGEST_MOMENT
         && numbers.until <= LARGEST_MOMENT
         && numbers.from <= numbers.until
+        && numbers.spaces <= MOST_SEATS
 }
 
 /// The vehicle of a row's numbers over so many nodes. None where one of them is out of its range.
@@ -183,12 +208,14 @@ fn vehicle(numbers: &RowNumbers, nodes: u32) -> Option<Vehicle>
         seats: numbers.seats as u32,
         from: numbers.from,
         until: numbers.until,
+        spaces: numbers.spaces as u32,
     })
 }
 
 /// Puts a vehicle of a new number among others.
 fn put(vehicles: &mut Vehicles, vehicle: Vehicle) -> Result<(), NoMemory>
-    ensures { (rows : List Vehicle) → Keeps vehicles.old rows → stood_before rows vehicle ≡ false → OnOk result (Keeps vehicles.new (rows ++ vehicle ∷ [])) }
+    ensures { (rows : List Vehicle) → Keeps vehicles.old rows → stood_before rows vehicle ≡ false
+        → OnOk result (Keeps vehicles.new (rows ++ vehicle ∷ [])) }
 {
     vehicles.insert(vehicle.no, vehicle)?;
     Ok(())

@@ -24,7 +24,8 @@ pub(crate) fn next_record(
     fields: &mut ByteRecord,
 ) -> Result<bool, FleetFault>
     requires { IsReading reader.old }
-    ensures gives { IfOk result (λ found. Gives (records_left reader.old) found (fields_of fields.new) reader.new) }
+    ensures gives { IfOk result
+        (λ found. Gives (records_left reader.old) found (fields_of fields.new) reader.new) }
     ensures memory { IfErr result (λ e. e ≡ FleetFault.NoMemory) }
 {
     match reader.read_byte_record(fields) {

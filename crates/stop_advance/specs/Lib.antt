@@ -1,4 +1,5 @@
 pub mod Advance
+pub mod Starts
 pub mod Samples
 pub use Rattle.stop_schedule.specs.Plans
 pub use Rattle.stop_schedule.specs.Times

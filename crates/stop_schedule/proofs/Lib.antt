@@ -1,5 +1,18 @@
-pub mod NewLists
-pub mod Moments
-pub mod Starts
-pub mod Riders
-pub mod Limits
+mod Lists
+mod Departs
+mod Aboard
+mod IsBounded
+mod Holds
+mod IsKept
+mod KeepsAhead
+mod OneMore
+mod OneLess
+mod IsSooner
+mod Removal
+mod FrontAtPlace
+mod FirstReached
+mod FrontOf
+mod FleetSamples
+pub mod ListLaws
+pub mod TimeLaws
+pub mod FrontLaws

@@ -1,8 +1,9 @@
-use Rattle.std.specs.Prelude.{ℕ, ◌+◌, max, cond, nat_le, nat_lt, List, [], ◌∷◌}
+use Rattle.std.specs.Prelude.{ℕ, ◌+◌, ◌<◌, ◌≤◌, max, cond, nat_le, nat_lt, List, [], ◌∷◌, length}
 use Rattle.road_graph.specs.declared.road.NodeNo.{NodeNo}
 use Rattle.road_graph.specs.Paths.{Path}
 use Rattle.stop_schedule.specs.declared.stop.Front.{Front}
-use Rattle.stop_schedule.specs.Plans.{Plan}
+use Rattle.stop_schedule.specs.Plans.{Plan, course_of}
+use Rattle.stop_schedule.specs.Times.{arrives}
 
 -- the first node of a walk, with its offset, that a vehicle which began it at `departure` reaches at `now` or later
 abbrev pub first_reached : (place : NodeNo) (departure now : ℕ) → List NodeNo → List ℕ → Front
@@ -21,3 +22,7 @@ front_on place departure now (leg ∷ legs) =
 -- otherwise at the first node of its leg that it reaches at `now` or later.
 abbrev pub front_of : Plan → ℕ → Front
 front_of p now = front_on p.place p.departure now p.legs
+
+-- The next stop, where there is one, isn't reached before the clock. No stop time counts before the first stop.
+abbrev pub IsAhead : Plan → ℕ → Type 0
+IsAhead p now = 0 < length p.stops → now ≤ arrives 0 (course_of p) 1

@@ -1,3 +1,4 @@
+pub mod Limits
 pub mod Rates
 pub mod Plans
 pub mod Times
@@ -7,6 +8,8 @@ pub mod Keeping
 pub mod Bounds
 pub mod Fleets
 pub mod Samples
+pub mod Ahead
+pub mod Distances
 pub use Rattle.road_graph.specs.Roads
 pub use Rattle.road_graph.specs.Paths
 pub use Rattle.road_graph.specs.Walks

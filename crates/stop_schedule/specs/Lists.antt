@@ -7,13 +7,13 @@ use Rattle.stop_schedule.specs.declared.stop.Insertion.{Insertion}
 use Rattle.stop_schedule.specs.declared.stop.Promise.{Promise}
 use Rattle.stop_schedule.specs.declared.stop.Stop.{Stop}
 use Rattle.stop_schedule.specs.declared.stop.StopKind.TheVariants.{Pickup, Dropoff}
-use Rattle.stop_schedule.specs.Plans.{Plan, Course}
+use Rattle.stop_schedule.specs.Plans.{Plan, Course, course_of, still_halts}
 
 abbrev pub pickup_of : Request → Promise → Stop
-pickup_of r promise = record { node = r.pickup; kind = Pickup; no = r.no; riders = r.riders; ready = r.moment; limit = promise.pickup }
+pickup_of r promise = record { node = r.pickup; kind = Pickup; no = r.no; riders = r.riders; ready = r.moment; limit = promise.pickup; spaces = r.spaces }
 
 abbrev pub dropoff_of : Request → Promise → Stop
-dropoff_of r promise = record { node = r.dropoff; kind = Dropoff; no = r.no; riders = r.riders; ready = 0; limit = promise.arrival }
+dropoff_of r promise = record { node = r.dropoff; kind = Dropoff; no = r.no; riders = r.riders; ready = 0; limit = promise.arrival; spaces = r.spaces }
 
 -- the stops with a pickup after stop i and a dropoff after stop j, the pickup first where these are one
 abbrev pub with_both : List Stop → Insertion → Stop → Stop → List Stop
@@ -30,23 +30,34 @@ with_legs legs at changed = cond (at.i == at.j)
 abbrev pub start_of : {X : Type 0} → Insertion → X → X → X
 start_of at front place = cond (at.i == 0) front place
 
--- The new schedule: both stops with the promise's limits, and the given walks as the changed legs. Where the pickup comes first,
--- the vehicle starts from its front.
-abbrev pub inserted_in : Plan → Front → Request → Insertion → Promise → List Path → Plan
-inserted_in p front r at promise walks = record {
-  seats = p.seats;
-  until = p.until;
+-- the old schedule from where the new list starts: where the pickup comes first, from the front, and else from the place
+abbrev pub started : Insertion → Front → Plan → Plan
+started at front p = record p {
   place = start_of at front.node p.place;
   departure = start_of at front.time p.departure;
+  halt = start_of at (still_halts front p) p.halt;
+}
+
+-- the new schedule: both stops with the promise's limits, and the given walks as the changed legs
+abbrev pub inserted_in : Plan → Front → Request → Insertion → Promise → List Path → Plan
+inserted_in p front r at promise walks = record (started at front p) {
   stops = with_both p.stops at (pickup_of r promise) (dropoff_of r promise);
   legs = with_legs p.legs at walks;
 }
 
--- the course of the new schedule where the changed legs have these lengths; its times don't hang on the limits
+-- the course of the old stops from where the new list starts
+abbrev pub old_course : Plan → Front → Insertion → Course
+old_course p front at = course_of (started at front p)
+
+-- what the riders of a request are held to before they are promised anything: the end of service
+abbrev pub unpromised : ℕ → Promise
+unpromised until = record { pickup = until; arrival = until }
+
+-- The course of the new schedule where the changed legs have these lengths. Its times don't hang on the limits, and the new stops
+-- have none but the end of service.
 abbrev pub new_course : Plan → Front → Request → Insertion → List ℕ → Course
-new_course p front r at lengths = record {
-  departure = start_of at front.time p.departure;
-  stops = with_both p.stops at (pickup_of r (record { pickup = 0; arrival = 0 })) (dropoff_of r (record { pickup = 0; arrival = 0 }));
+new_course p front r at lengths = record (old_course p front at) {
+  stops = with_both p.stops at (pickup_of r (unpromised p.until)) (dropoff_of r (unpromised p.until));
   lengths = with_legs (map length_of p.legs) at lengths;
 }
 

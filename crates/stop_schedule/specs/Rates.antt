@@ -22,6 +22,20 @@ pub record AreInRange (r : Rates) : Type 0 where
   pub divides : 1 ≤ r.trip_den
   pub factor : r.trip_num ≤ 16 * r.trip_den
 
+-- the parameters of these numbers
+abbrev pub rates_of : (stop wait trip_num trip_den trip_add wait_weight trip_weight : ℕ) → Rates
+rates_of stop wait trip_num trip_den trip_add wait_weight trip_weight =
+    record { stop = stop; wait = wait; trip_num = trip_num; trip_den = trip_den; trip_add = trip_add; wait_weight = wait_weight; trip_weight = trip_weight }
+
+abbrev pub AreOfNumbers : (stop wait trip_num trip_den trip_add wait_weight trip_weight : ℕ) → Rates → Type 0
+AreOfNumbers stop wait trip_num trip_den trip_add wait_weight trip_weight r =
+    r ≡ rates_of stop wait trip_num trip_den trip_add wait_weight trip_weight
+
+-- not each of these numbers is in its range
+abbrev pub AreOutOfRange : (stop wait trip_num trip_den trip_add wait_weight trip_weight : ℕ) → Type 0
+AreOutOfRange stop wait trip_num trip_den trip_add wait_weight trip_weight =
+    AreInRange (rates_of stop wait trip_num trip_den trip_add wait_weight trip_weight) → ⊥
+
 -- how long after its moment a request's riders may arrive at no cost, for a direct distance
 abbrev pub trip_limit : Rates → ℕ → ℕ
 trip_limit r direct = r.trip_num * direct / r.trip_den + r.trip_add

@@ -18,6 +18,7 @@ pub fn pickup_stop(request: &Request, promise: &Promise) -> Stop
         riders: request.riders,
         ready: request.moment,
         limit: promise.pickup,
+        spaces: request.spaces,
     }
 }
 
@@ -32,6 +33,7 @@ pub fn dropoff_stop(request: &Request, promise: &Promise) -> Stop
         riders: request.riders,
         ready: 0,
         limit: promise.arrival,
+        spaces: request.spaces,
     }
 }
 
@@ -58,7 +60,7 @@ pub fn stops_with(
 }
 
 /// Puts equal walks at the end.
-fn add_shares(alloc: Global, all: &mut Vec<Walk>, walks: &[Walk]) -> Result<(), NoMemory>
+pub fn add_shares(alloc: Global, all: &mut Vec<Walk>, walks: &[Walk]) -> Result<(), NoMemory>
     ensures { OnOk result (all.new.items ≡ all.old.items ++ walks.now) }
 {
     for walk in walks {

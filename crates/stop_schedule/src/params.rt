@@ -1,6 +1,8 @@
 ghost use Rattle.std.specs.Prelude.{◌≡◌, ℕ, ◌+◌, ◌*◌, ◌/◌, ◌<◌, ◌≤◌, ◌^◌, OnSome, IfSome, IfNone};
-ghost use Rattle.stop_schedule.specs.Rates.{AreInRange, trip_limit, usual};
+ghost use Rattle.stop_schedule.specs.Rates.{AreInRange, AreOfNumbers, AreOutOfRange, trip_limit, usual};
+ghost use Rattle.stop_schedule.specs.Times.{halt_time};
 
+use road_graph::NodeNo;
 use std::marker::Model;
 
 /// What times, limits and costs are reckoned with, each in its range. Times are in the units of the roads' weights.
@@ -39,9 +41,11 @@ impl Params {
         wait_weight: u64,
         trip_weight: u64,
     ) -> Option<Params>
-        ensures value { IfSome result (λ p. p ≡ record { stop = stop; wait = wait; trip_num = trip_num; trip_den = trip_den; trip_add = trip_add; wait_weight = wait_weight; trip_weight = trip_weight }) }
+        ensures value { IfSome result
+            (AreOfNumbers stop wait trip_num trip_den trip_add wait_weight trip_weight) }
         ensures in_range { IfSome result AreInRange }
-        ensures none { IfNone result (AreInRange (record { stop = stop; wait = wait; trip_num = trip_num; trip_den = trip_den; trip_add = trip_add; wait_weight = wait_weight; trip_weight = trip_weight }) → ⊥) }
+        ensures none { IfNone result
+            (AreOutOfRange stop wait trip_num trip_den trip_add wait_weight trip_weight) }
     {
         let factors = trip_num.max(trip_den).max(trip_add);
         let largest = stop
@@ -84,6 +88,17 @@ impl Params {
         ensures in_range { AreInRange self.now }
     {
         self.stop
+    }
+
+    /// How long a stop at a node takes a vehicle that halts there, or elsewhere, or nowhere.
+    pub fn stop_at(&self, halt: Option<NodeNo>, node: NodeNo) -> u64
+        ensures value { result ≡ halt_time self.now.stop halt node }
+        ensures bound { result ≤ 65536 }
+    {
+        match halt {
+            Some(place) if place == node => 0,
+            _ => self.stop,
+        }
     }
 
     /// How long a rider waits at no cost.

@@ -12,6 +12,8 @@ pub struct Request {
     pub dropoff: NodeNo,
     /// When they are ready, in the units of the roads' weights, at most 2^40 where a board takes it.
     pub moment: u64,
-    /// How many riders there are, 1 to 16 where a board takes it.
+    /// How many riders take a seat, 0 to 16 where a board takes it.
     pub riders: u32,
+    /// How many riders take a wheelchair space, 0 to 16 where a board takes it, and at least one rider in all.
+    pub spaces: u32,
 }

@@ -8,10 +8,12 @@ pub struct Vehicle {
     pub no: VehicleNo,
     /// The node where it stands at first.
     pub start: NodeNo,
-    /// How many riders it holds, 1 to 16.
+    /// How many riders it holds on seats, 1 to 16.
     pub seats: u32,
     /// When its service begins, in the units of the roads' weights, at most 2^40.
     pub from: u64,
     /// When its last stop has to be left at the latest, not before `from` and at most 2^40.
     pub until: u64,
+    /// How many wheelchairs it holds beside them, 0 to 16.
+    pub spaces: u32,
 }

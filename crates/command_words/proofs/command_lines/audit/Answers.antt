@@ -4,7 +4,7 @@ use Rattle.clap.specs.Words.{app_of, found_of, rows_of}
 use Rattle.clap.proofs.WalkLemmas.{first_value-rows}
 use Rattle.command_words.specs.Commands.{audit_command}
 use Rattle.command_words.specs.Reading.{answer_of, app_for, audit_by}
-use Rattle.command_words.proofs.Answering.{comes_from}
+use Rattle.command_words.proofs.AnswerOf.{comes_from}
 use Rattle.command_words.proofs.Modes.{audit_built, audit_ids, audit_none, audit_some, audit_table}
 use Rattle.command_words.proofs.command_lines.audit.Goals as goal
 

@@ -4,7 +4,7 @@ use Rattle.clap.specs.Words.{app_of, found_of, rows_of}
 use Rattle.clap.proofs.WalkLemmas.{first_value-rows}
 use Rattle.command_words.specs.Commands.{gen_command}
 use Rattle.command_words.specs.Reading.{answer_of, app_for, gen_by}
-use Rattle.command_words.proofs.Answering.{comes_from}
+use Rattle.command_words.proofs.AnswerOf.{comes_from}
 use Rattle.command_words.proofs.Modes.{gen_built, gen_ids, gen_none, gen_some, gen_table}
 use Rattle.command_words.proofs.command_lines.city.Goals as goal
 

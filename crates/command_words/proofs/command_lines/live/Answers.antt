@@ -4,7 +4,7 @@ use Rattle.clap.specs.Words.{App, app_of, found_of, rows_of}
 use Rattle.clap.proofs.WalkLemmas.{first_value-rows}
 use Rattle.command_words.specs.Commands.{live_command}
 use Rattle.command_words.specs.Reading.{answer_of, app_for, live_by, value_rule, with_rules}
-use Rattle.command_words.proofs.Answering.{comes_from}
+use Rattle.command_words.proofs.AnswerOf.{comes_from}
 use Rattle.command_words.proofs.Modes.{live_built, run_ids, live_none, live_some, live_table}
 use Rattle.command_words.proofs.command_lines.live.Goals as goal
 

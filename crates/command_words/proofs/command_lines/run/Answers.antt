@@ -4,7 +4,7 @@ use Rattle.clap.specs.Words.{App, app_of, found_of, rows_of}
 use Rattle.clap.proofs.WalkLemmas.{first_value-rows, one_text-rows}
 use Rattle.command_words.specs.Commands.{run_command}
 use Rattle.command_words.specs.Reading.{answer_of, app_for, flag_rule, run_by, value_rule, with_rules}
-use Rattle.command_words.proofs.Answering.{comes_from}
+use Rattle.command_words.proofs.AnswerOf.{comes_from}
 use Rattle.command_words.proofs.Modes.{run_built, run_ids, run_none, run_some, run_table}
 use Rattle.command_words.proofs.command_lines.run.Goals as goal
 

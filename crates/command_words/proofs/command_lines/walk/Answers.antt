@@ -4,7 +4,7 @@ use Rattle.clap.specs.Words.{app_of, found_of, rows_of}
 use Rattle.clap.proofs.WalkLemmas.{first_value-rows}
 use Rattle.command_words.specs.Commands.{walk_command}
 use Rattle.command_words.specs.Reading.{answer_of, app_for, walk_by}
-use Rattle.command_words.proofs.Answering.{comes_from}
+use Rattle.command_words.proofs.AnswerOf.{comes_from}
 use Rattle.command_words.proofs.Modes.{walk_built, walk_ids, walk_none, walk_some, walk_table}
 use Rattle.command_words.proofs.command_lines.walk.Goals as goal
 

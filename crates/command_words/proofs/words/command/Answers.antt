@@ -3,7 +3,7 @@ use Rattle.std.proofs.lemmas.Result.{IfOk-weaker}
 use Rattle.clap.specs.Words.{App, app_of}
 use Rattle.clap.specs.Simple.{app_of_fields}
 use Rattle.command_words.specs.Reading.{bare_app, name_rule, value_rule, with_rules}
-use Rattle.command_words.proofs.Building.{map_through, no_rules}
+use Rattle.command_words.proofs.WithRules.{map_through, no_rules}
 use Rattle.command_words.proofs.words.command.Goals as goal
 
 pub returns : goal.returns

@@ -1,5 +1,5 @@
 use Rattle.clap.specs.Words.{first_value, found_of}
-use Rattle.command_words.proofs.Building.{params_are}
+use Rattle.command_words.proofs.WithRules.{params_are}
 use Rattle.command_words.proofs.words.params.Goals as goal
 
 pub returns : goal.returns

@@ -1,7 +1,7 @@
 use Rattle.std.proofs.Common.{rules, []}
 use Rattle.clap.specs.Words.{app_of, rule_of}
 use Rattle.command_words.specs.Reading.{flag_rule}
-use Rattle.command_words.proofs.Building.{next_rule}
+use Rattle.command_words.proofs.WithRules.{next_rule}
 use Rattle.command_words.proofs.words.with_flags.Goals as goal
 
 pub loop-name-preserved : goal.loop-name-preserved

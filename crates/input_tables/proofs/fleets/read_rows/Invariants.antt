@@ -6,7 +6,7 @@ use Rattle.input_tables.proofs.fleets.read_rows.Given as goal
 abbrev pub invariant-loop-vehicles : goal.invariant-loop-vehicles
 invariant-loop-vehicles l = record {
   reading : IsReading l.reader;
-  rows : RowsSoFar l.nodes l.row l.vehicles (records_left l.reader) (records_left l.fn.reader);
+  rows : RowsSoFar l.spaces l.nodes l.row l.vehicles (records_left l.reader) (records_left l.fn.reader);
 }
 
 abbrev pub decreases-loop-vehicles : goal.decreases-loop-vehicles

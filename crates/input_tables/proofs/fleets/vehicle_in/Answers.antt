@@ -7,26 +7,26 @@ use Rattle.input_tables.proofs.Rowing.{no_row, no_vehicle, late_row, double_row,
 use Rattle.input_tables.proofs.fleets.vehicle_in.Goals as goal
 
 pub returns-in_default-clause-vehicle : goal.returns-in_default-clause-vehicle
-returns-in_default-clause-vehicle c = λ rows kept. no_row _ _ rows (fields_of c.args.fields.now) (omega (arith, c.ranges.nodes.fits)) (search rules)
+returns-in_default-clause-vehicle c = λ rows kept. no_row _ _ _ rows (fields_of c.args.fields.now) (omega (arith, c.ranges.nodes.fits)) (search rules)
 
 pub returns-in_default-vehicle-clause-vehicle : goal.returns-in_default-vehicle-clause-vehicle
 returns-in_default-vehicle-clause-vehicle c = λ rows kept.
-    let read : row_of (fields_of c.args.fields.now) ≡ Some c.in-Some.numbers = search rules in
-    no_vehicle _ _ rows (fields_of c.args.fields.now) (omega (arith, c.ranges.nodes.fits)) c.in-Some.numbers read (search rules)
+    let read : row_of c.args.spaces (fields_of c.args.fields.now) ≡ Some c.in-Some.numbers = search rules in
+    no_vehicle _ _ _ rows (fields_of c.args.fields.now) (omega (arith, c.ranges.nodes.fits)) c.in-Some.numbers read (search rules)
 
 pub returns-then-row-gt-MOST_VEHICLES-clause-vehicle : goal.returns-then-row-gt-MOST_VEHICLES-clause-vehicle
 returns-then-row-gt-MOST_VEHICLES-clause-vehicle c = λ rows kept.
-    let read : row_of (fields_of c.args.fields.now) ≡ Some c.in-Some.numbers = search rules in
-    late_row _ _ rows (fields_of c.args.fields.now) (omega (arith, c.ranges.nodes.fits)) c.in-Some.numbers read c.in-Some-vehicle.vehicle (sym c.in-Some-vehicle.ensures) c.if-row-gt-MOST_VEHICLES.true
+    let read : row_of c.args.spaces (fields_of c.args.fields.now) ≡ Some c.in-Some.numbers = search rules in
+    late_row _ _ _ rows (fields_of c.args.fields.now) (omega (arith, c.ranges.nodes.fits)) c.in-Some.numbers read c.in-Some-vehicle.vehicle (sym c.in-Some-vehicle.ensures) c.if-row-gt-MOST_VEHICLES.true
 
 pub returns-then-contains_key-clause-vehicle : goal.returns-then-contains_key-clause-vehicle
 returns-then-contains_key-clause-vehicle c = λ rows kept.
-    let read : row_of (fields_of c.args.fields.now) ≡ Some c.in-Some.numbers = search rules in
+    let read : row_of c.args.spaces (fields_of c.args.fields.now) ≡ Some c.in-Some.numbers = search rules in
     let stood : stood_before rows c.in-Some-vehicle.vehicle ≡ true = sym (stands _ (λ x y. refl) c.in-Some-vehicle.vehicle rows) ∙ rw kept at (sym c.contains_key.ensures ∙ c.if-contains_key.true) in
-    double_row _ _ rows (fields_of c.args.fields.now) (omega (arith, c.ranges.nodes.fits)) c.in-Some.numbers read c.in-Some-vehicle.vehicle (sym c.in-Some-vehicle.ensures) c.if-row-gt-MOST_VEHICLES.false stood
+    double_row _ _ _ rows (fields_of c.args.fields.now) (omega (arith, c.ranges.nodes.fits)) c.in-Some.numbers read c.in-Some-vehicle.vehicle (sym c.in-Some-vehicle.ensures) c.if-row-gt-MOST_VEHICLES.false stood
 
 pub returns-clause-vehicle : goal.returns-clause-vehicle
 returns-clause-vehicle c = λ rows kept.
-    let read : row_of (fields_of c.args.fields.now) ≡ Some c.in-Some.numbers = search rules in
+    let read : row_of c.args.spaces (fields_of c.args.fields.now) ≡ Some c.in-Some.numbers = search rules in
     let new : stood_before rows c.in-Some-vehicle.vehicle ≡ false = sym (stands _ (λ x y. refl) c.in-Some-vehicle.vehicle rows) ∙ rw kept at (sym c.contains_key.ensures ∙ c.if-contains_key.false) in
-    good_row _ _ rows (fields_of c.args.fields.now) (omega (arith, c.ranges.nodes.fits)) c.in-Some.numbers read c.in-Some-vehicle.vehicle (sym c.in-Some-vehicle.ensures) c.if-row-gt-MOST_VEHICLES.false new
+    good_row _ _ _ rows (fields_of c.args.fields.now) (omega (arith, c.ranges.nodes.fits)) c.in-Some.numbers read c.in-Some-vehicle.vehicle (sym c.in-Some-vehicle.ensures) c.if-row-gt-MOST_VEHICLES.false new

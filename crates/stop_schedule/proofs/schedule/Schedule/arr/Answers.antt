@@ -1,6 +1,6 @@
 use Rattle.std.proofs.Common.{arith, ◌-◌}
 use Rattle.stop_schedule.specs.Plans.{course_of}
-use Rattle.stop_schedule.proofs.Moments.{arrives_after, length_at}
+use Rattle.stop_schedule.proofs.Departs.{arrives_after, length_at}
 use Rattle.stop_schedule.proofs.schedule.Schedule.arr.Goals as goal
 
 pub returns-clause-value : goal.returns-clause-value

@@ -1,0 +1,4 @@
+mod LatestArrivals
+mod OverNumbers
+mod InEllipses
+pub mod LeewayLaws

@@ -1,0 +1,6 @@
+pub mod Removals
+pub mod Walkers
+pub mod Laws
+pub mod Samples
+pub use Rattle.stop_schedule.specs.Plans
+pub use Rattle.stop_schedule.specs.Keeping
