@@ -1,17 +1,25 @@
-pub mod Inserting
-pub mod Chaining
-pub mod Timing
-pub mod Keeping
-pub mod Changing
-pub mod Serving
-pub mod Counting
-pub mod Sound
-pub mod Taking
-pub mod Moving
-pub mod Riding
-pub mod Finding
-pub mod Boarding
-pub mod Stepping
-pub mod Promising
-pub mod Ahead
-pub mod Doing
+mod Inserts
+mod Chains
+mod Alike
+mod Kept
+mod NewLegs
+mod NewStops
+mod StopCounts
+mod SoundPlans
+mod NewPlans
+mod Advances
+mod Ahead
+mod GoodPlans
+mod Lookups
+mod Held
+mod Opened
+mod Riders
+mod LessStops
+mod SoundBoards
+mod SoundSteps
+mod LegalHistories
+mod RidersLeft
+mod KeptPromises
+mod DoneInTime
+mod GoodFleets
+pub mod HistoryLaws

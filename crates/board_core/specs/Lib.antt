@@ -1,10 +1,13 @@
+pub mod Queues
 pub mod Boards
+pub mod FleetViews
 pub mod Steps
+pub mod BoardViews
 pub mod Histories
 pub mod Promises
 pub mod Laws
 pub mod Samples
 pub use Rattle.insertion_cost.specs.Prices
-pub use Rattle.insertion_cost.specs.Distances
+pub use Rattle.stop_schedule.specs.Distances
 pub use Rattle.insertion_cost.specs.Offers
 pub use Rattle.stop_advance.specs.Advance

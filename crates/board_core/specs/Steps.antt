@@ -1,4 +1,7 @@
-use Rattle.std.specs.Prelude.{◌≡◌, ℕ, ◌+◌, ◌^◌, ◌<◌, ◌≤◌, ◌==◌, ◌&&◌, ◌||◌, not, nat_le, nat_lt, true, false, cond, List, [], ◌∷◌, ◌++◌, map, flat_map, Option, Some, None, slice_get, slice_set, IsSome}
+use Rattle.std.specs.Prelude.{◌≡◌, ℕ, ◌+◌, ◌<◌, ◌≤◌, ◌==◌, ◌&&◌, ◌||◌, not, nat_lt, true, false, Bool, cond, List, [], ◌∷◌, ◌++◌, map, flat_map, Option, Some, None, is_some, slice_get, slice_set, IsSome}
+use Rattle.std.specs.BTreeMap.{insert_entry}
+use Rattle.std.specs.BTreeSet.{insert_key}
+use Rattle.std.specs.List.{list_any}
 use Rattle.ride_base.specs.declared.numbers.RequestNo.{RequestNo}
 use Rattle.ride_base.specs.declared.numbers.VehicleNo.{VehicleNo}
 use Rattle.road_graph.specs.Roads.{Roads, is_node}
@@ -6,36 +9,43 @@ use Rattle.road_graph.specs.Walks.{IsDist}
 use Rattle.stop_schedule.specs.declared.request.Request.{Request}
 use Rattle.stop_schedule.specs.Fleets.{Car, Cars}
 use Rattle.stop_schedule.specs.Fronts.{front_of}
+use Rattle.stop_schedule.specs.Keeping.{picks_up}
+use Rattle.stop_schedule.specs.Limits.{latest_moment}
 use Rattle.stop_schedule.specs.Lists.{inserted_in, changed_ends}
 use Rattle.stop_schedule.specs.Rates.{Rates}
 use Rattle.stop_advance.specs.declared.served.Served.{Served}
 use Rattle.stop_advance.specs.Advance.{reached_by, served_by, advanced_in}
+use Rattle.stop_removal.specs.declared.removal.Removal.{Removal}
+use Rattle.stop_removal.specs.Removals.{AreStopsOf, joint_ends, removed_in}
 use Rattle.insertion_cost.specs.declared.decision.Assigned.{Assigned}
 use Rattle.insertion_cost.specs.declared.decision.Decision.{Decision}
 use Rattle.insertion_cost.specs.declared.decision.Decision.TheVariants.{Assigned as IsAssigned, Nobody}
-use Rattle.insertion_cost.specs.Distances.{AreLeastWalks}
+use Rattle.stop_schedule.specs.Distances.{AreLeastWalks}
 use Rattle.insertion_cost.specs.Offers.{IsBest, NoOffer, price_in}
 use Rattle.insertion_cost.specs.Prices.{promise_of}
 use Rattle.board_core.specs.declared.entry.Reason.{Reason}
 use Rattle.board_core.specs.declared.entry.Reason.TheVariants.{Closed, Place, Riders, Moment, Repeated}
 use Rattle.board_core.specs.declared.entry.Submitted.TheVariants.{Accepted, Refused}
 use Rattle.board_core.specs.declared.entry.Advanced.TheVariants.{Moved, Back as Behind}
+use Rattle.board_core.specs.declared.entry.CancelReason.{CancelReason}
+use Rattle.board_core.specs.declared.entry.CancelReason.TheVariants as why
+use Rattle.board_core.specs.declared.entry.Cancelled.TheVariants.{Removed, Refused as Declined}
 use Rattle.board_core.specs.declared.entry.Entry.{Entry}
-use Rattle.board_core.specs.declared.entry.Entry.TheVariants.{Submit, Claim, Back, Commit, Advance, Shut}
-use Rattle.board_core.specs.Boards.{Board, Waiting, waiting_of, was_accepted, oldest_unheld, with_holder, without, with_next_version}
+use Rattle.board_core.specs.declared.entry.Entry.TheVariants.{Submit, Claim, Back, Commit, Advance, Cancel, Shut}
+use Rattle.board_core.specs.Boards.{Board, Waiting, by_number, waiting_of, answer_of, is_cancelled, was_accepted, oldest_unheld, with_holder, without, with_next_version}
 
 -- the first reason for which a board refuses a request
 abbrev pub refusal : Board → Request → Option Reason
 refusal b r =
     cond b.closed (Some Closed)
     (cond (not (is_node b.nodes r.pickup && is_node b.nodes r.dropoff)) (Some Place)
-    (cond (not (nat_le 1 r.riders && nat_le r.riders 16)) (Some Riders)
-    (cond (nat_lt r.moment b.fleet.clock || nat_lt (2 ^ 40) r.moment) (Some Moment)
+    (cond (nat_lt 16 r.riders || nat_lt 16 r.spaces || ((r.riders == 0) && (r.spaces == 0))) (Some Riders)
+    (cond (nat_lt r.moment b.fleet.clock || nat_lt latest_moment r.moment) (Some Moment)
     (cond (was_accepted b r.no) (Some Repeated) None))))
 
 -- the board with this answer, where the number waits no more
 abbrev pub answered : Board → RequestNo → Decision → Board
-answered b number decision = record (with_next_version b) { waiting = without number b.waiting; answers = b.answers ++ record { number = number; decision = decision } ∷ [] }
+answered b number decision = record (with_next_version b) { waiting = without number b.waiting; answers = insert_entry by_number b.answers number decision }
 
 -- the vehicle's schedule with the request put in, its limits as promised; its stamp is the new version
 abbrev pub taken_on : Board → Car → Request → ℕ → Assigned → Car
@@ -68,6 +78,47 @@ pub record IsTurnedDown (g : Roads) (old : Board) (number : RequestNo) (new : Bo
   pub none : NoOffer g old.fleet waits.request
   pub leads_to : new ≡ answered old number Nobody
 
+-- whether one of a vehicle's stops picks up the riders of a number
+abbrev pub is_to_pick_up : RequestNo → Option Car → Bool
+is_to_pick_up number None = false
+is_to_pick_up number (Some car) = list_any (picks_up number) car.plan.stops
+
+-- why the riders of a request with this answer, or with none, can't cancel
+abbrev pub cancel_refusal_by : Board → RequestNo → Option Decision → Option CancelReason
+cancel_refusal_by b number None = Some why.Unknown
+cancel_refusal_by b number (Some Nobody) = Some why.Nobody
+cancel_refusal_by b number (Some (IsAssigned a)) =
+    cond (is_cancelled b number) (Some why.Cancelled)
+    (cond (is_to_pick_up number (slice_get b.fleet.cars a.offer.place)) None (Some why.Served))
+
+-- the reason for which a board refuses a cancellation
+abbrev pub cancel_refusal : Board → RequestNo → Option CancelReason
+cancel_refusal b number = cond (is_some (waiting_of b number)) (Some why.Waiting) (cancel_refusal_by b number (answer_of b number))
+
+-- the board on which the number is cancelled; its answer stays
+abbrev pub with_cancelled : Board → RequestNo → Board
+with_cancelled b number = record (with_next_version b) { cancelled = insert_key by_number b.cancelled number }
+
+-- the vehicle's schedule without the riders' stops; its stamp is the new version
+abbrev pub taken_off : Board → Car → Removal → Car
+taken_off b car x = record car {
+  plan = removed_in car.plan (front_of car.plan b.fleet.clock) x.pickup x.dropoff x.walks;
+  stamp = b.fleet.version + 1;
+}
+
+-- The removal is lawful and leads to the new board: there is no reason against it, the stops at its positions are the number's in the
+-- list of the vehicle that it was given, and the walks are least walks of the joined legs.
+pub record IsRemoved (g : Roads) (old : Board) (number : RequestNo) (x : Removal) (new : Board) : Type 0 where
+  pub assigned : Assigned
+  pub car : Car
+  pub not_refused : cancel_refusal old number ≡ None
+  pub answer : answer_of old number ≡ Some (IsAssigned assigned)
+  pub stands : slice_get old.fleet.cars assigned.offer.place ≡ Some car
+  pub numbered : car.no ≡ x.no
+  pub stops : AreStopsOf number car.plan.stops x.pickup x.dropoff
+  pub walks : AreLeastWalks g (joint_ends car.plan.stops (front_of car.plan old.fleet.clock) x.pickup x.dropoff) x.walks
+  pub leads_to : new ≡ with_car (with_cancelled old number) assigned.offer.place (taken_off old car x)
+
 -- the vehicle at a later clock; where it reached a stop, its stamp is the new version
 abbrev pub moved_car : Rates → ℕ → ℕ → Car → Car
 moved_car rates version now car = cond (reached_by rates car.plan now == 0) car (record car { plan = advanced_in rates car.plan now; stamp = version })
@@ -85,8 +136,9 @@ at_clock b now = record b {
   fleet = record b.fleet { clock = now; version = b.fleet.version + 1; cars = map (moved_car b.fleet.rates (b.fleet.version + 1) now) b.fleet.cars };
 }
 
--- The entry is lawful on the old board, and leads to the new one, over a graph with the board's number of nodes. Each entry raises the version by one, and all that isn't named
--- stays. Walks are free among least walks; all else is fixed by the board and by what was asked.
+-- The entry is lawful on the old board, and leads to the new one, over a graph with the board's number of nodes. Each entry raises the
+-- version by one, and all that isn't named stays. Walks are free among least walks; all else is fixed by the board and by what was
+-- asked.
 abbrev pub Step : Roads → Board → Entry → Board → Type 0
 Step g old (Submit r Accepted) new = (refusal old r ≡ None) × (new ≡ record (with_next_version old) { waiting = old.waiting ++ record { request = r; holder = None } ∷ [] })
 Step g old (Submit r (Refused reason)) new = (refusal old r ≡ Some reason) × (new ≡ with_next_version old)
@@ -96,4 +148,6 @@ Step g old (Commit number (IsAssigned a)) new = IsTaken g old number a new
 Step g old (Commit number Nobody) new = IsTurnedDown g old number new
 Step g old (Advance now (Moved served)) new = (old.fleet.clock ≤ now) × (served ≡ served_in old.fleet now) × (new ≡ at_clock old now)
 Step g old (Advance now (Behind clock)) new = (now < old.fleet.clock) × (clock ≡ old.fleet.clock) × (new ≡ with_next_version old)
+Step g old (Cancel number (Removed x)) new = IsRemoved g old number x new
+Step g old (Cancel number (Declined reason)) new = (cancel_refusal old number ≡ Some reason) × (new ≡ with_next_version old)
 Step g old Shut new = (old.closed ≡ false) × (new ≡ record (with_next_version old) { closed = true })

@@ -1,6 +1,7 @@
 use insertion_cost::Decision;
 use ride_base::{Items, RequestNo, VehicleNo};
 use stop_advance::Served;
+use stop_removal::Removal;
 use stop_schedule::Request;
 
 /// Why a request is refused; the first that holds, in this order.
@@ -10,7 +11,7 @@ pub enum Reason {
     Closed,
     /// The pickup or the dropoff is no node of the graph.
     Place,
-    /// The riders aren't 1 to 16.
+    /// The riders on seats or those in wheelchair spaces are above 16, or there is none of either.
     Riders,
     /// The moment is before the clock, or past 2^40.
     Moment,
@@ -39,6 +40,30 @@ pub enum Advanced {
     },
 }
 
+/// Why a cancellation is refused. At most one of these holds.
+#[derive(Clone, Copy, Debug, PartialEq, Eq)]
+pub enum CancelReason {
+    /// The number was never accepted.
+    Unknown,
+    /// The request still waits.
+    Waiting,
+    /// No vehicle could take the request.
+    Nobody,
+    /// It was cancelled before.
+    Cancelled,
+    /// The riders were picked up.
+    Served,
+}
+
+/// What became of a cancellation.
+#[derive(Debug, PartialEq, Eq, Drop)]
+pub enum Cancelled {
+    /// The riders' stops were taken out of their vehicle's list.
+    Removed(Removal),
+    /// It was refused, and nothing but the version changed.
+    Refused(CancelReason),
+}
+
 /// One event of a board.
 #[derive(Debug, PartialEq, Eq, Drop)]
 pub enum Entry {
@@ -52,6 +77,8 @@ pub enum Entry {
     Commit(RequestNo, Decision),
     /// The clock was to move to this moment.
     Advance(u64, Advanced),
+    /// The riders of a request cancelled.
+    Cancel(RequestNo, Cancelled),
     /// The board was closed.
     Shut,
 }

@@ -1,8 +1,15 @@
-// The board: a fleet, its clock, the requests that wait and the answers, and the entries that change it.
+//! The board: a fleet and its clock, the requests that wait, the answers and what was cancelled, and the entries that change it.
+//! The layers above use that a legal history keeps its promises and leaves the fleet good over its graph.
 #![tactic(auto)]
 
+mod board;
 mod entry;
+mod fleet;
 mod law;
+mod waiting;
 
-pub use entry::{Advanced, Entry, Reason, Submitted};
-pub use law::promises_are_kept;
+pub use board::Board;
+pub use entry::{Advanced, CancelReason, Cancelled, Entry, Reason, Submitted};
+pub use fleet::Fleet;
+pub use law::{fleets_stay_good, promises_are_kept};
+pub use waiting::Waiting;

@@ -1,5 +1,20 @@
-pub mod Legs
-pub mod Aboard
-pub mod Along
-pub mod Orders
-pub mod Within
+mod NewLengths
+mod Aboard
+mod DriveAlong
+mod OfferCmp
+mod Cheaper
+mod HasPrice
+mod IsFeasible
+mod Settles
+mod AreSound
+mod ChangedEnds
+mod SpansOf
+mod IsTried
+mod WaysAlong
+mod InFleet
+mod WalksOf
+mod AreEntries
+mod ChangedWalks
+pub mod OfferLaws
+pub mod PriceLaws
+pub mod CandidateLaws

@@ -1,7 +1,12 @@
 pub mod Prices
-pub mod Distances
 pub mod Offers
-pub mod Sooner
+pub mod OfferOrder
+pub mod Candidates
+pub mod NodeWays
+pub mod Pairs
+pub mod Searches
+pub mod Pricers
+pub mod Laws
 pub mod Spans
 pub mod Changes
 pub mod Drives

@@ -1,13 +1,12 @@
-use Rattle.std.specs.Prelude.{ℕ, ◌+◌, ◌-◌, ◌*◌, max, cond, List, length, map, Option, Some, None, sum}
-use Rattle.road_graph.specs.Paths.{length_of}
+use Rattle.std.specs.Prelude.{ℕ, ◌+◌, ◌-◌, ◌*◌, max, cond, List, length, Option, Some, None, sum}
 use Rattle.stop_schedule.specs.declared.request.Request.{Request}
 use Rattle.stop_schedule.specs.declared.stop.Front.{Front}
 use Rattle.stop_schedule.specs.declared.stop.Insertion.{Insertion}
 use Rattle.stop_schedule.specs.declared.stop.Promise.{Promise}
 use Rattle.stop_schedule.specs.Rates.{Rates, trip_limit}
 use Rattle.stop_schedule.specs.Plans.{Plan, Course}
-use Rattle.stop_schedule.specs.Times.{departs, arrives}
-use Rattle.stop_schedule.specs.Lists.{new_course, start_of}
+use Rattle.stop_schedule.specs.Times.{departs, arrives, stop_times}
+use Rattle.stop_schedule.specs.Lists.{new_course, old_course, start_of}
 use Rattle.stop_schedule.specs.Keeping.{is_feasible}
 
 -- what an insertion comes to: its cost, when the pickup is left and when the dropoff is reached
@@ -16,15 +15,14 @@ pub record Price : Type 0 where
   pub leave : ℕ
   pub arrive : ℕ
 
--- the driving and the stop time of a list of so many stops over legs of these lengths, of which a part is driven already
-abbrev pub effort : Rates → ℕ → List ℕ → ℕ → ℕ
-effort rates stops lengths driven = sum lengths - driven + rates.stop * stops
+-- the driving and the stop time along all legs of a course
+abbrev pub busy_time : ℕ → Course → ℕ
+busy_time stop c = sum c.lengths + stop_times stop c (length c.stops)
 
--- What the new list takes more than the old one, both from the front: where the pickup comes first the new list starts there, and
--- else a part of the first leg is driven already, as in the old list. It is cut at 0.
+-- What the new list takes more than the old one, both from where the new one starts. What is driven of the first leg up to the
+-- front, where the new list starts there, is part of the old legs, and so it is added to the new ones. It is cut at 0.
 abbrev pub detour : Rates → Plan → Front → Insertion → Course → ℕ
-detour rates p front at new =
-    effort rates (length p.stops + 2) new.lengths (start_of at 0 front.offset) - effort rates (length p.stops) (map length_of p.legs) front.offset
+detour rates p front at new = start_of at front.offset 0 + busy_time rates.stop new - busy_time rates.stop (old_course p front at)
 
 -- The pickup is stop i + 1 of the new list, and the dropoff stop j + 2. Waiting past the wait limit counts with its weight, and so
 -- does the trip past its limit.

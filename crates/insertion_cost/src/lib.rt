@@ -1,14 +1,31 @@
-// What it costs to take a request, and which offer is the best.
+//! What it costs to take a request, and which offer is the best.
+//!
+//! The layers above use that `price` is the definition's price of one pair of places, that `best_from` is the best offer of one vehicle
+//! over all pairs, that what a `Pricer` gives is fresh for its view and decides, and that its walks are least walks of the changed legs.
+//! `PlainPricer` prices so by whole searches. `prices_are_monotone` names the laws of longer legs and of later fronts.
 #![tactic(auto)]
 
+mod candidates;
 mod decision;
 mod driving;
+mod laws;
 mod listing;
+mod node_ways;
 mod offer;
+mod pairs;
+mod plain;
+mod pricer;
 mod pricing;
+mod searches;
 mod spans;
 
+pub use candidates::{Candidate, Candidates, Floor, is_decided, is_redone};
 pub use decision::{Assigned, Decision};
-pub use offer::{Offer, is_before, sooner};
+pub use laws::prices_are_monotone;
+pub use node_ways::NodeWays;
+pub use offer::{Offer, first_of_two, is_before};
+pub use pairs::{Standing, best_from};
+pub use plain::PlainPricer;
+pub use pricer::Pricer;
 pub use pricing::{Priced, price, promise};
 pub use spans::Spans;

@@ -1,56 +1,40 @@
 ghost use Rattle.std.specs.Prelude.{◌≡◌, ℕ, ◌+◌, ◌<◌, ◌≤◌, ◌^◌, length, Some, slice_get, slice_index};
 ghost use Rattle.stop_schedule.specs.Bounds.{IsBounded};
-ghost use Rattle.stop_schedule.specs.Lists.{pickup_of, dropoff_of};
-ghost use Rattle.insertion_cost.specs.Changes.{no_promise, new_stops, new_lengths};
+ghost use Rattle.stop_schedule.specs.Lists.{unpromised};
+ghost use Rattle.insertion_cost.specs.Changes.{new_stops, new_lengths};
 ghost use Rattle.insertion_cost.specs.Spans.{AreSpans, lengths_of};
 
 use crate::spans::Spans;
-use stop_schedule::{Insertion, Request, Schedule, Stop, StopKind};
+use stop_schedule::{Insertion, Promise, Request, Schedule, Stop, dropoff_stop, pickup_stop};
 
-/// Stop k of the new list, from 0, where the new stops have no limit.
+/// Stop k of the new list, from 0, where the new stops have no limit but the end of service.
 pub fn new_stop(schedule: &Schedule, request: &Request, at: Insertion, k: usize) -> Stop
     requires order { at.i ≤ at.j }
     requires within { at.j ≤ length schedule.now.stops }
     requires stop { k < length schedule.now.stops + 2 }
-    ensures value { slice_get (new_stops schedule.now.stops request.now at) k ≡ Some result }
+    ensures value { slice_get (new_stops schedule.now.stops schedule.now.until request.now at) k ≡ Some result }
 {
     let stops = schedule.stops();
     if k < at.i {
         stops[k]
     } else if k == at.i {
-        pickup(request)
+        pickup_stop(request, &unpromised(schedule.until()))
     } else if k <= at.j {
         stops[k - 1]
     } else if k == at.j + 1 {
-        dropoff(request)
+        dropoff_stop(request, &unpromised(schedule.until()))
     } else {
         stops[k - 2]
     }
 }
 
-fn pickup(request: &Request) -> Stop
-    ensures { result ≡ pickup_of request.now no_promise }
+/// What the riders of a request are held to before they are promised anything: the end of service.
+fn unpromised(until: u64) -> Promise
+    ensures { result ≡ unpromised until }
 {
-    Stop {
-        node: request.pickup,
-        kind: StopKind::Pickup,
-        no: request.no,
-        riders: request.riders,
-        ready: request.moment,
-        limit: 0,
-    }
-}
-
-fn dropoff(request: &Request) -> Stop
-    ensures { result ≡ dropoff_of request.now no_promise }
-{
-    Stop {
-        node: request.dropoff,
-        kind: StopKind::Dropoff,
-        no: request.no,
-        riders: request.riders,
-        ready: 0,
-        limit: 0,
+    Promise {
+        pickup: until,
+        arrival: until,
     }
 }
 

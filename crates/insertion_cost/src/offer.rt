@@ -1,7 +1,7 @@
 ghost use Rattle.std.specs.Prelude.{◌≡◌, ℕ, ◌↔◌, IsTrue, Option};
 ghost use Rattle.std.specs.declared.cmp.Ordering.TheVariants.{Less};
 ghost use Rattle.insertion_cost.specs.Offers.{offer_cmp};
-ghost use Rattle.insertion_cost.specs.Sooner.{IsSooner};
+ghost use Rattle.insertion_cost.specs.OfferOrder.{IsFirstOfTwo};
 
 use ride_base::VehicleNo;
 use stop_schedule::Insertion;
@@ -31,8 +31,8 @@ pub fn is_before(a: &Offer, b: &Offer) -> bool
 }
 
 /// The one of two offers that goes first, where there is one; the former, where neither goes before the other.
-pub fn sooner(a: Option<Offer>, b: Option<Offer>) -> Option<Offer>
-    ensures { IsSooner a b result }
+pub fn first_of_two(a: Option<Offer>, b: Option<Offer>) -> Option<Offer>
+    ensures { IsFirstOfTwo a b result }
 {
     match (a, b) {
         (None, b) => b,

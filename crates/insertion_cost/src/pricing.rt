@@ -1,12 +1,15 @@
-ghost use Rattle.std.specs.Prelude.{◌≡◌, ℕ, ◌+◌, ◌-◌, ◌*◌, ◌<◌, ◌≤◌, ◌^◌, length, option_map, IfSome, sum, map};
+ghost use Rattle.std.specs.Prelude.{◌≡◌, ℕ, ◌+◌, ◌-◌, ◌*◌, ◌<◌, ◌≤◌, ◌^◌, length, option_map, IfSome, sum, map, ◌==◌, if◌then◌else◌, Some, None};
 ghost use Rattle.road_graph.specs.Paths.{length_of};
-ghost use Rattle.stop_schedule.specs.Lists.{start_of};
-ghost use Rattle.insertion_cost.specs.Prices.{priced, effort, promise_of};
+ghost use Rattle.stop_schedule.specs.Limits.{latest_moment, latest_front, end_of_time};
+ghost use Rattle.stop_schedule.specs.Lists.{old_course};
+ghost use Rattle.stop_schedule.specs.Plans.{course_of};
+ghost use Rattle.stop_schedule.specs.Times.{stop_times};
+ghost use Rattle.insertion_cost.specs.Prices.{priced, busy_time, promise_of};
 ghost use Rattle.insertion_cost.specs.Spans.{AreSpans, lengths_of, price_from};
 
 use crate::driving::drive_along;
 use crate::spans::Spans;
-use stop_schedule::{Front, Insertion, Params, Promise, Request, Schedule};
+use stop_schedule::{Front, Insertion, Params, Promise, Request, Schedule, Start};
 
 /// What an insertion comes to, in the units of the roads' weights.
 #[derive(Clone, Copy, Debug, PartialEq, Eq)]
@@ -19,8 +22,8 @@ pub struct Priced {
     pub arrive: u64,
 }
 
-/// The price of an insertion into a schedule from its front, or none where it isn't feasible, if the direct way and the legs that
-/// change have these lengths.
+/// The price of an insertion into a schedule from its front, if the direct way and the legs that change have these lengths. There is
+/// none where the insertion isn't feasible, or its places aren't in order or in the list.
 pub fn price(
     schedule: &Schedule,
     front: &Front,
@@ -30,23 +33,25 @@ pub fn price(
     spans: &Spans,
     at: Insertion,
 ) -> Option<Priced>
-    requires order { at.i ≤ at.j }
-    requires within { at.j ≤ length schedule.now.stops }
     requires spans { AreSpans (length schedule.now.stops) at spans.now }
     requires direct { direct < 2 ^ 53 }
-    requires moment { request.now.moment ≤ 2 ^ 40 }
-    requires front { front.now.time ≤ 2 ^ 41 }
+    requires moment { request.now.moment ≤ latest_moment }
+    requires front { front.now.time ≤ latest_front }
+    requires offset { front.now.offset < 2 ^ 53 }
     ensures value { option_map price_from result ≡ priced params.now schedule.now front.now request.now at direct (lengths_of spans.now) }
     ensures cost { IfSome result (λ p. p.cost < 2 ^ 58) }
-    ensures leave { IfSome result (λ p. p.leave ≤ 2 ^ 40) }
-    ensures arrive { IfSome result (λ p. p.arrive ≤ 2 ^ 40) }
+    ensures leave { IfSome result (λ p. p.leave ≤ latest_moment) }
+    ensures arrive { IfSome result (λ p. p.arrive ≤ latest_moment) }
 {
+    if at.i > at.j || at.j > schedule.stops().len() {
+        return None;
+    }
     let drive = drive_along(schedule, front, params, request, spans, at)?;
     let latest_leave = request.moment + params.wait();
     let latest_arrive = request.moment + params.trip_limit(direct);
     let waiting = params.wait_weight() * drive.leave.saturating_sub(latest_leave);
     let delay = params.trip_weight() * drive.arrive.saturating_sub(latest_arrive);
-    let detour = detour(schedule, front, params, drive.driving, at);
+    let detour = detour(schedule, front, params, drive.busy_time, at);
     Some(Priced {
         cost: detour + waiting + delay,
         leave: drive.leave,
@@ -57,14 +62,14 @@ pub fn price(
 /// What the riders of a request are promised at their commit, where their pickup is planned to be left and their dropoff to be
 /// reached at these times.
 pub fn promise(params: &Params, request: &Request, direct: u64, leave: u64, arrive: u64) -> Promise
-    requires moment { request.now.moment ≤ 2 ^ 40 }
+    requires moment { request.now.moment ≤ latest_moment }
     requires direct { direct < 2 ^ 53 }
-    requires leave { leave < 2 ^ 60 }
-    requires arrive { arrive < 2 ^ 60 }
+    requires leave { leave < end_of_time }
+    requires arrive { arrive < end_of_time }
     // it doesn't hang on the cost
     ensures value { result ≡ promise_of params.now request.now direct (record { cost = 0; leave = leave; arrive = arrive }) }
-    ensures pickup { result.pickup < 2 ^ 60 }
-    ensures arrival { result.arrival < 2 ^ 60 }
+    ensures pickup { result.pickup < end_of_time }
+    ensures arrival { result.arrival < end_of_time }
 {
     Promise {
         pickup: leave.max(request.moment + params.wait()),
@@ -72,28 +77,30 @@ pub fn promise(params: &Params, request: &Request, direct: u64, leave: u64, arri
     }
 }
 
-/// What the new list takes more than the old one, both from the front.
-fn detour(schedule: &Schedule, front: &Front, params: &Params, driving: u64, at: Insertion) -> u64
-    requires few { length schedule.now.stops ≤ 62 }
-    requires driving { driving ≤ 2 ^ 41 }
-    ensures value { result ≡ driving - start_of at 0 front.now.offset + params.now.stop * (length schedule.now.stops + 2) - effort params.now (length schedule.now.stops) (map length_of schedule.now.legs) front.now.offset }
-    ensures bound { result ≤ 2 ^ 42 }
+/// What the new list takes more than the old one, both from where the new one starts.
+fn detour(schedule: &Schedule, front: &Front, params: &Params, new: u64, at: Insertion) -> u64
+    requires time { front.now.time ≤ latest_front }
+    requires offset { front.now.offset < 2 ^ 53 }
+    requires new { new ≤ 2 ^ 41 }
+    ensures value { result ≡ (if at.i == 0 then front.now.offset else 0) + new - busy_time params.now.stop (old_course schedule.now front.now at) }
+    ensures bound { result ≤ 2 ^ 54 }
 {
-    let stops = schedule.stops().len() as u64;
-    let driven = if at.i == 0 { 0 } else { front.offset };
-    let new = driving.saturating_sub(driven) + params.stop() * (stops + 2);
-    let old = driving_of(schedule).saturating_sub(front.offset) + params.stop() * stops;
-    new.saturating_sub(old)
+    let start = schedule.start(front, at);
+    let driven = if at.i == 0 { front.offset } else { 0 };
+    (driven + new).saturating_sub(busy_time_of(schedule, params, &start))
 }
 
-/// The lengths of all legs together.
-fn driving_of(schedule: &Schedule) -> u64
-    ensures value { result ≡ sum (map length_of schedule.now.legs) }
-    ensures bound { result ≤ 2 ^ 59 }
+/// The lengths of all legs and the times of all stops together, where the vehicle starts from there.
+fn busy_time_of(schedule: &Schedule, params: &Params, start: &Start) -> u64
+    ensures value { result ≡ sum (map length_of schedule.now.legs) + stop_times params.now.stop (record (course_of schedule.now) { halt = if start.now.halt then Some start.now.node else None; departure = start.now.departure }) (length schedule.now.stops) }
+    ensures bound { result ≤ 2 ^ 60 }
 {
-    let mut driving = 0;
+    let mut busy_time = 0;
+    let mut halt = start.halts_at();
     for k in 0..schedule.stops().len() {
-        driving += schedule.leg(k).length();
+        let node = schedule.stops()[k].node;
+        busy_time += schedule.leg(k).length() + params.stop_at(halt, node);
+        halt = Some(node);
     }
-    driving
+    busy_time
 }

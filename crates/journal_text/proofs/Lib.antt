@@ -1,1 +1,1 @@
-pub mod Pairing
+mod WalkLines

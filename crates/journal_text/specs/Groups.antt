@@ -1,22 +1,28 @@
-use Rattle.std.specs.Prelude.{ℕ, zero, suc, ◌+◌, ◌-◌, List, [], ◌∷◌, ◌++◌, flat_map, codes}
+use Rattle.std.specs.Prelude.{ℕ, zero, suc, ◌+◌, ◌-◌, ◌==◌, cond, List, [], ◌∷◌, ◌++◌, flat_map, codes}
 use Rattle.std.specs.Fmt.{decimal}
 use Rattle.ride_base.specs.declared.numbers.VehicleNo.{VehicleNo}
 use Rattle.road_graph.specs.declared.road.NodeNo.{NodeNo}
-use Rattle.road_graph.specs.Paths.{Path}
 use Rattle.stop_schedule.specs.declared.request.Request.{Request}
 use Rattle.stop_schedule.specs.declared.stop.StopKind.{StopKind}
 use Rattle.stop_schedule.specs.declared.stop.StopKind.TheVariants.{Pickup, Dropoff}
 use Rattle.stop_advance.specs.declared.served.Served.{Served}
-use Rattle.insertion_cost.specs.declared.decision.Decision.TheVariants.{Assigned, Nobody}
-use Rattle.insertion_cost.specs.declared.offer.Offer.{Offer}
 use Rattle.board_core.specs.declared.entry.Reason.{Reason}
 use Rattle.board_core.specs.declared.entry.Reason.TheVariants.{Closed, Place, Riders, Moment, Repeated}
+use Rattle.board_core.specs.declared.entry.CancelReason.{CancelReason}
+use Rattle.board_core.specs.declared.entry.CancelReason.TheVariants as why
 use Rattle.board_core.specs.declared.entry.Submitted.{Submitted}
 use Rattle.board_core.specs.declared.entry.Submitted.TheVariants.{Accepted, Refused}
 use Rattle.board_core.specs.declared.entry.Advanced.{Advanced}
 use Rattle.board_core.specs.declared.entry.Advanced.TheVariants.{Moved, Back as Behind}
 use Rattle.board_core.specs.declared.entry.Entry.{Entry}
-use Rattle.board_core.specs.declared.entry.Entry.TheVariants.{Submit, Claim, Back, Commit, Advance, Shut}
+use Rattle.journal_text.specs.declared.text.TextOffer.{TextOffer}
+use Rattle.journal_text.specs.declared.text.TextDecision.TheVariants as answer
+use Rattle.journal_text.specs.declared.text.TextRemoval.{TextRemoval}
+use Rattle.journal_text.specs.declared.text.TextCancelled.{TextCancelled}
+use Rattle.journal_text.specs.declared.text.TextCancelled.TheVariants.{Removed, Refused as Declined}
+use Rattle.journal_text.specs.declared.text.TextEntry.{TextEntry}
+use Rattle.journal_text.specs.declared.text.TextEntry.TheVariants as text
+use Rattle.journal_text.specs.TextEntries.{text_entry}
 
 -- numbers, each after a space
 abbrev pub spaced : List ℕ → List ℕ
@@ -24,8 +30,8 @@ spaced [] = []
 spaced (n ∷ ns) = 32 ∷ decimal n ++ spaced ns
 
 -- a line of a letter and numbers after it
-abbrev pub line_of : ℕ → List ℕ → List ℕ
-line_of letter ns = letter ∷ spaced ns ++ 10 ∷ []
+abbrev pub numbers_line : ℕ → List ℕ → List ℕ
+numbers_line letter ns = letter ∷ spaced ns ++ 10 ∷ []
 
 -- how many nodes stand on one line of a walk
 abbrev pub nodes_on_line : ℕ
@@ -47,11 +53,16 @@ abbrev pub changed_legs : ℕ → ℕ → List ℕ
 changed_legs i zero = i ∷ (i + 1) ∷ (i + 2) ∷ []
 changed_legs i (suc between) = i ∷ (i + 1) ∷ (i + between + 2) ∷ (i + between + 3) ∷ []
 
+-- The numbers of the joined legs in the new list, for the positions of the pickup and the dropoff that are taken out. The last counts
+-- only where a stop follows; then there is a walk for it.
+abbrev pub joined_legs : (a b : ℕ) → List ℕ
+joined_legs a b = cond (b == a + 1) ((a - 1) ∷ []) ((a - 1) ∷ (b - 2) ∷ [])
+
 -- each walk with its leg
-abbrev pub walks_of : List ℕ → List Path → List ℕ
-walks_of [] walks = []
-walks_of (leg ∷ legs) [] = []
-walks_of (leg ∷ legs) (w ∷ walks) = walk_lines leg w.nodes ++ walks_of legs walks
+abbrev pub walks_lines : List ℕ → List (List NodeNo) → List ℕ
+walks_lines [] walks = []
+walks_lines (leg ∷ legs) [] = []
+walks_lines (leg ∷ legs) (nodes ∷ walks) = walk_lines leg nodes ++ walks_lines legs walks
 
 abbrev pub reason_text : Reason → List ℕ
 reason_text Closed = codes "closed"
@@ -60,39 +71,63 @@ reason_text Riders = codes "riders"
 reason_text Moment = codes "moment"
 reason_text Repeated = codes "repeated"
 
+abbrev pub cancel_reason_text : CancelReason → List ℕ
+cancel_reason_text why.Unknown = codes "unknown"
+cancel_reason_text why.Waiting = codes "waiting"
+cancel_reason_text why.Nobody = codes "nobody"
+cancel_reason_text why.Cancelled = codes "cancelled"
+cancel_reason_text why.Served = codes "served"
+
 abbrev pub kind_text : StopKind → List ℕ
 kind_text Pickup = codes "p"
 kind_text Dropoff = codes "d"
 
+-- r ID P D T Q, and S where wheelchair spaces are asked for
 abbrev pub ride_line : Request → List ℕ
-ride_line r = line_of 114 (r.no.0 ∷ r.pickup.0 ∷ r.dropoff.0 ∷ r.moment ∷ r.riders ∷ [])
+ride_line r = numbers_line 114 (r.no.0 ∷ r.pickup.0 ∷ r.dropoff.0 ∷ r.moment ∷ r.riders ∷ cond (r.spaces == 0) [] (r.spaces ∷ []))
 
 -- s VEHICLE ID KIND NODE ARR DEP
 abbrev pub served_line : VehicleNo × Served → List ℕ
 served_line s = 115 ∷ spaced (s.0.0 ∷ s.1.no.0 ∷ []) ++ 32 ∷ kind_text s.1.kind ++ spaced (s.1.node.0 ∷ s.1.arr ∷ s.1.dep ∷ []) ++ 10 ∷ []
 
--- x ID REASON, under a request that was refused
-abbrev pub refusal_of : ℕ → Submitted → List ℕ
-refusal_of number Accepted = []
-refusal_of number (Refused reason) = 120 ∷ spaced (number ∷ []) ++ 32 ∷ reason_text reason ++ 10 ∷ []
+-- x ID REASON, under what was refused
+abbrev pub refusal_line : ℕ → List ℕ → List ℕ
+refusal_line number reason = 120 ∷ spaced (number ∷ []) ++ 32 ∷ reason ++ 10 ∷ []
 
--- a ID VEHICLE I J COST DEP ARR
-abbrev pub offer_line : ℕ → Offer → List ℕ
-offer_line number o = line_of 97 (number ∷ o.no.0 ∷ o.at.i ∷ o.at.j ∷ o.cost ∷ o.leave ∷ o.arrive ∷ [])
+abbrev pub submitted_lines : ℕ → Submitted → List ℕ
+submitted_lines number Accepted = []
+submitted_lines number (Refused reason) = refusal_line number (reason_text reason)
+
+-- a ID VEHICLE I J COST DEP ARR, and the walks
+abbrev pub offer_lines : ℕ → TextOffer → List ℕ
+offer_lines number o = numbers_line 97 (number ∷ o.no.0 ∷ o.at.i ∷ o.at.j ∷ o.cost ∷ o.leave ∷ o.arrive ∷ []) ++ walks_lines (changed_legs o.at.i (o.at.j - o.at.i)) o.walks
+
+-- o ID VEHICLE A B, and the joined walks
+abbrev pub removal_lines : ℕ → TextRemoval → List ℕ
+removal_lines number x = numbers_line 111 (number ∷ x.no.0 ∷ x.pickup ∷ x.dropoff ∷ []) ++ walks_lines (joined_legs x.pickup x.dropoff) x.walks
+
+abbrev pub cancelled_lines : ℕ → TextCancelled → List ℕ
+cancelled_lines number (Removed x) = removal_lines number x
+cancelled_lines number (Declined reason) = refusal_line number (cancel_reason_text reason)
 
 abbrev pub moved_lines : Advanced → List ℕ
 moved_lines (Moved served) = flat_map served_line served
 moved_lines (Behind clock) = codes "x back" ++ spaced (clock ∷ []) ++ 10 ∷ []
 
+-- the lines of an entry in its text form
+abbrev pub entry_lines : TextEntry → List ℕ
+entry_lines (text.Submit r submitted) = ride_line r ++ submitted_lines r.no.0 submitted
+entry_lines (text.Claim number desk) = numbers_line 107 (number.0 ∷ desk ∷ [])
+entry_lines (text.Back number) = numbers_line 98 (number.0 ∷ [])
+entry_lines (text.Commit number (answer.Assigned o)) = offer_lines number.0 o
+entry_lines (text.Commit number answer.Nobody) = numbers_line 110 (number.0 ∷ [])
+entry_lines (text.Advance now advanced) = numbers_line 116 (now ∷ []) ++ moved_lines advanced
+entry_lines (text.Cancel number cancelled) = numbers_line 121 (number.0 ∷ []) ++ cancelled_lines number.0 cancelled
+entry_lines text.Shut = codes "z" ++ 10 ∷ []
+
 -- the lines of an entry
 abbrev pub group : Entry → List ℕ
-group (Submit r submitted) = ride_line r ++ refusal_of r.no.0 submitted
-group (Claim number desk) = line_of 107 (number.0 ∷ desk ∷ [])
-group (Back number) = line_of 98 (number.0 ∷ [])
-group (Commit number (Assigned a)) = offer_line number.0 a.offer ++ walks_of (changed_legs a.offer.at.i (a.offer.at.j - a.offer.at.i)) a.walks
-group (Commit number Nobody) = line_of 110 (number.0 ∷ [])
-group (Advance now advanced) = line_of 116 (now ∷ []) ++ moved_lines advanced
-group Shut = codes "z" ++ 10 ∷ []
+group e = entry_lines (text_entry e)
 
 -- the lines of a history
 abbrev pub journal_of : List Entry → List ℕ

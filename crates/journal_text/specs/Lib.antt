@@ -1,3 +1,4 @@
+pub mod TextEntries
 pub mod Groups
 pub mod Printable
 pub mod Samples

@@ -1,10 +1,13 @@
-ghost use Rattle.std.specs.Prelude.{◌≡◌, ◌-◌, ◌≤◌, ◌++◌, OnOk, OnErr, flat_map};
-ghost use Rattle.journal_text.specs.Groups.{group, ride_line, refusal_of, reason_text, moved_lines, served_line};
-ghost use Rattle.journal_text.specs.Groups.{walks_of, changed_legs};
+ghost use Rattle.std.specs.Prelude.{◌≡◌, ◌-◌, ◌<◌, ◌≤◌, ◌++◌, OnOk, OnErr, flat_map};
+ghost use Rattle.board_core.specs.declared.entry.Entry.TheVariants as entry;
+ghost use Rattle.journal_text.specs.Groups.{group, ride_line, submitted_lines, cancelled_lines, refusal_line};
+ghost use Rattle.journal_text.specs.Groups.{reason_text, cancel_reason_text, moved_lines, served_line};
+ghost use Rattle.journal_text.specs.Groups.{walks_lines, changed_legs, joined_legs};
 ghost use Rattle.journal_text.specs.Printable.{IsPrintable};
+ghost use Rattle.journal_text.specs.TextEntries.{nodes_of, text_cancelled};
 
 use crate::line::{push_line, push_numbers, push_walks};
-use board_core::{Advanced, Entry, Reason, Submitted};
+use board_core::{Advanced, CancelReason, Cancelled, Entry, Reason, Submitted};
 use insertion_cost::Decision;
 use ride_base::{NoMemory, RequestNo, VehicleNo};
 use road_graph::Walk;
@@ -31,7 +34,7 @@ fn push_group(out: &mut Vec<u8>, entry: &Entry) -> Result<(), NoMemory>
     match entry {
         Entry::Submit(request, submitted) => {
             push_ride(out, request)?;
-            push_refusal(out, request.no, *submitted)
+            push_submitted(out, request.no, *submitted)
         }
         Entry::Claim(no, desk) => push_line(out, b'k', &[no.0, *desk]),
         Entry::Back(no) => push_line(out, b'b', &[no.0]),
@@ -40,6 +43,10 @@ fn push_group(out: &mut Vec<u8>, entry: &Entry) -> Result<(), NoMemory>
             push_line(out, b't', &[*now])?;
             push_moved(out, advanced)
         }
+        Entry::Cancel(no, cancelled) => {
+            push_line(out, b'y', &[no.0])?;
+            push_cancelled(out, *no, cancelled)
+        }
         Entry::Shut => out.extend_from_slice(b"z\n"),
     }
 }
@@ -47,29 +54,37 @@ fn push_group(out: &mut Vec<u8>, entry: &Entry) -> Result<(), NoMemory>
 fn push_ride(out: &mut Vec<u8>, request: &Request) -> Result<(), NoMemory>
     ensures { OnOk result (out.new.items ≡ out.old.items ++ ride_line request.now) }
 {
-    push_line(
-        out,
-        b'r',
-        &[
-            request.no.0,
-            u64::from(request.pickup.0),
-            u64::from(request.dropoff.0),
-            request.moment,
-            u64::from(request.riders),
-        ],
-    )
+    let numbers = [
+        request.no.0,
+        u64::from(request.pickup.0),
+        u64::from(request.dropoff.0),
+        request.moment,
+        u64::from(request.riders),
+        u64::from(request.spaces),
+    ];
+    if request.spaces == 0 {
+        push_line(out, b'r', &numbers[..5])
+    } else {
+        push_line(out, b'r', &numbers)
+    }
 }
 
-fn push_refusal(out: &mut Vec<u8>, no: RequestNo, submitted: Submitted) -> Result<(), NoMemory>
-    ensures { OnOk result (out.new.items ≡ out.old.items ++ refusal_of no.0 submitted) }
+fn push_submitted(out: &mut Vec<u8>, no: RequestNo, submitted: Submitted) -> Result<(), NoMemory>
+    ensures { OnOk result (out.new.items ≡ out.old.items ++ submitted_lines no.0 submitted) }
 {
-    let Submitted::Refused(reason) = submitted else {
-        return Ok(());
-    };
+    match submitted {
+        Submitted::Accepted => Ok(()),
+        Submitted::Refused(reason) => push_refusal(out, no, text_of(reason)),
+    }
+}
+
+fn push_refusal(out: &mut Vec<u8>, no: RequestNo, reason: &str) -> Result<(), NoMemory>
+    ensures { OnOk result (out.new.items ≡ out.old.items ++ refusal_line no.0 reason.now) }
+{
     out.push(b'x')?;
     push_numbers(out, &[no.0])?;
     out.push(b' ')?;
-    out.extend_from_slice(text_of(reason).as_bytes())?;
+    out.extend_from_slice(reason.as_bytes())?;
     out.push(b'\n')?;
     Ok(())
 }
@@ -86,9 +101,66 @@ fn text_of(reason: Reason) -> &'static str
     }
 }
 
+fn push_cancelled(out: &mut Vec<u8>, no: RequestNo, cancelled: &Cancelled) -> Result<(), NoMemory>
+    requires { IsPrintable (entry.Cancel no cancelled.now) }
+    ensures { OnOk result (out.new.items ≡ out.old.items ++ cancelled_lines no.0 (text_cancelled cancelled.now)) }
+{
+    let removal = match cancelled {
+        Cancelled::Removed(removal) => removal,
+        Cancelled::Refused(reason) => return push_refusal(out, no, cancel_text_of(*reason)),
+    };
+    push_line(
+        out,
+        b'o',
+        &[
+            no.0,
+            u64::from(removal.no.0),
+            removal.pickup as u64,
+            removal.dropoff as u64,
+        ],
+    )?;
+    push_joined(
+        out,
+        removal.pickup,
+        removal.dropoff,
+        removal.walks.as_slice(),
+    )
+}
+
+fn cancel_text_of(reason: CancelReason) -> &'static str
+    ensures { result.now ≡ cancel_reason_text reason }
+{
+    match reason {
+        CancelReason::Unknown => "unknown",
+        CancelReason::Waiting => "waiting",
+        CancelReason::Nobody => "nobody",
+        CancelReason::Cancelled => "cancelled",
+        CancelReason::Served => "served",
+    }
+}
+
+/// Adds the walks of the legs that a removal joins, with the numbers of these legs in the new list.
+fn push_joined(
+    out: &mut Vec<u8>,
+    pickup: usize,
+    dropoff: usize,
+    walks: &[Walk],
+) -> Result<(), NoMemory>
+    requires from_first { 1 ≤ pickup }
+    requires order { pickup < dropoff }
+    ensures { OnOk result (out.new.items ≡ out.old.items ++ walks_lines (joined_legs pickup dropoff) (nodes_of walks.now)) }
+{
+    let before = (pickup - 1) as u128;
+    if dropoff == pickup + 1 {
+        push_walks(out, &[before], walks)
+    } else {
+        push_walks(out, &[before, (dropoff - 2) as u128], walks)
+    }
+}
+
 fn push_decision(out: &mut Vec<u8>, no: RequestNo, decision: &Decision) -> Result<(), NoMemory>
-    requires { IsPrintable (Entry.Commit no decision.now) }
-    ensures { OnOk result (out.new.items ≡ out.old.items ++ group (Entry.Commit no decision.now)) }
+    requires { IsPrintable (entry.Commit no decision.now) }
+    ensures { OnOk result (out.new.items ≡ out.old.items ++ group (entry.Commit no decision.now)) }
 {
     let Decision::Assigned(assigned) = decision else {
         return push_line(out, b'n', &[no.0]);
@@ -113,7 +185,7 @@ fn push_decision(out: &mut Vec<u8>, no: RequestNo, decision: &Decision) -> Resul
 /// Adds the walks of the legs that an insertion changes, with the numbers of these legs in the new list.
 fn push_changed(out: &mut Vec<u8>, at: Insertion, walks: &[Walk]) -> Result<(), NoMemory>
     requires { at.i ≤ at.j }
-    ensures { OnOk result (out.new.items ≡ out.old.items ++ walks_of (changed_legs at.i (at.j - at.i)) walks.now) }
+    ensures { OnOk result (out.new.items ≡ out.old.items ++ walks_lines (changed_legs at.i (at.j - at.i)) (nodes_of walks.now)) }
 {
     let i = at.i as u128;
     let j = at.j as u128;

@@ -1,6 +1,7 @@
 ghost use Rattle.std.specs.Prelude.{◌≡◌, ◌∷◌, ◌++◌, OnOk};
 ghost use Rattle.std.specs.Fmt.{decimal};
-ghost use Rattle.journal_text.specs.Groups.{spaced, line_of, walk_lines, walks_of};
+ghost use Rattle.journal_text.specs.Groups.{spaced, numbers_line, walk_lines, walks_lines};
+ghost use Rattle.journal_text.specs.TextEntries.{nodes_of};
 
 use itoa::{Buffer, Integer};
 use ride_base::NoMemory;
@@ -31,7 +32,7 @@ pub(crate) fn push_numbers(out: &mut Vec<u8>, numbers: &[u64]) -> Result<(), NoM
 
 /// Adds a line of a letter and numbers.
 pub(crate) fn push_line(out: &mut Vec<u8>, letter: u8, numbers: &[u64]) -> Result<(), NoMemory>
-    ensures { OnOk result (out.new.items ≡ out.old.items ++ line_of letter numbers.now) }
+    ensures { OnOk result (out.new.items ≡ out.old.items ++ numbers_line letter numbers.now) }
 {
     out.push(letter)?;
     push_numbers(out, numbers)?;
@@ -42,7 +43,7 @@ pub(crate) fn push_line(out: &mut Vec<u8>, letter: u8, numbers: &[u64]) -> Resul
 /// Adds walks, each with the number of its leg, as far as both lists go. A leg's number has 128 bits, since it may be past the
 /// greatest place of a list.
 pub(crate) fn push_walks(out: &mut Vec<u8>, legs: &[u128], walks: &[Walk]) -> Result<(), NoMemory>
-    ensures { OnOk result (out.new.items ≡ out.old.items ++ walks_of legs.now walks.now) }
+    ensures { OnOk result (out.new.items ≡ out.old.items ++ walks_lines legs.now (nodes_of walks.now)) }
 {
     for (leg, walk) in legs.iter().zip(walks) {
         push_walk(out, *leg, walk.nodes())?;
@@ -51,7 +52,7 @@ pub(crate) fn push_walks(out: &mut Vec<u8>, legs: &[u128], walks: &[Walk]) -> Re
 }
 
 /// Adds the lines of one walk.
-fn push_walk(out: &mut Vec<u8>, leg: u128, nodes: &[NodeNo]) -> Result<(), NoMemory>
+pub(crate) fn push_walk(out: &mut Vec<u8>, leg: u128, nodes: &[NodeNo]) -> Result<(), NoMemory>
     ensures { OnOk result (out.new.items ≡ out.old.items ++ walk_lines leg nodes.now) }
 {
     out.push(b'g')?;

@@ -1,7 +1,5 @@
 use Rattle.board_core.proofs.law.promises_are_kept.Goals as goal
-use Rattle.board_core.proofs.Doing.{done}
-use Rattle.board_core.proofs.Promising.{law}
+use Rattle.board_core.proofs.HistoryLaws.{promises_kept, promises_done}
 
--- src/law.rt:6:1
 pub returns : goal.returns
-returns c = record { kept = law; done = done }
+returns c = record { kept = promises_kept; done = promises_done }

@@ -1,5 +1,5 @@
 use Rattle.std.proofs.Common.{◌∙◌, arith}
-use Rattle.insertion_cost.proofs.Legs.{new_before, new_between, new_into_dropoff, new_out_of_dropoff, new_after}
+use Rattle.insertion_cost.proofs.NewLengths.{new_before, new_between, new_into_dropoff, new_out_of_dropoff, new_after}
 use Rattle.insertion_cost.proofs.listing.new_length.Goals as goal
 
 pub returns-then-k-at-clause-value : goal.returns-then-k-at-clause-value

@@ -1,6 +1,6 @@
 use Rattle.std.proofs.Common.{rules}
 use Rattle.std.proofs.lemmas.Slice.Zip.{Zip-more, either_empty_from_Zip}
-use Rattle.journal_text.proofs.Pairing.{one_leg, no_leg}
+use Rattle.journal_text.proofs.WalkLines.{one_leg, no_leg}
 use Rattle.journal_text.proofs.line.push_walks.Goals as goal
 
 pub loop-leg-preserved : goal.loop-leg-preserved

@@ -1,5 +1,5 @@
 use Rattle.std.proofs.Common.{◌≡◌, ◌++◌}
-use Rattle.journal_text.specs.Groups.{walks_of}
+use Rattle.journal_text.proofs.WalkLines.{walks_of}
 use Rattle.journal_text.proofs.line.push_walks.Given as goal
 
 abbrev pub invariant-loop-leg : goal.invariant-loop-leg

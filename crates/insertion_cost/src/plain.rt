@@ -1,0 +1,260 @@
+ghost use Rattle.std.specs.Prelude.{◌≡◌, ◌+◌, ◌<◌, ◌≤◌, ◌^◌, ◌∷◌, ◌++◌, length, option_to_list, IfOk};
+ghost use Rattle.road_graph.specs.Graphs.{IsGraph};
+ghost use Rattle.road_graph.specs.Roads.{Roads};
+ghost use Rattle.road_graph.specs.Walks.{IsLeastWalk};
+ghost use Rattle.stop_schedule.specs.Distances.{AreLeastWalks};
+ghost use Rattle.stop_schedule.specs.Fleets.{Car as CarOf};
+ghost use Rattle.stop_schedule.specs.Limits.{latest_moment, latest_front};
+ghost use Rattle.stop_schedule.specs.Lists.{changed_ends, node_at as node_of_stop};
+ghost use Rattle.insertion_cost.specs.Pairs.{IsCarOf, IsBestFrom};
+ghost use Rattle.insertion_cost.specs.Pricers.{IsSearchedFor, IsEntryAt, HasDistance, HaveDistances};
+ghost use Rattle.insertion_cost.specs.Searches.{AreSearchesOf};
+
+use crate::candidates::{Candidate, Candidates, Floor};
+use crate::node_ways::NodeWays;
+use crate::offer::Offer;
+use crate::pairs::{Standing, best_from};
+use crate::pricer::Pricer;
+use crate::searches::{Searches, gather};
+use plain_search::least_walk;
+use ride_base::{Items, NoMemory};
+use road_graph::{Graph, NodeNo, Steps, Walk};
+use std::alloc::Global;
+use stop_schedule::{FleetView, Front, Insertion, NewWalks, Params, Request, Schedule, Stop};
+
+/// The best offer of a vehicle from a front, by whole searches. None where no pair is feasible.
+fn best_by_searches(
+    vehicle: Standing,
+    schedule: &Schedule,
+    front: &Front,
+    params: &Params,
+    request: &Request,
+    searches: &Searches,
+    ways: &mut Vec<NodeWays>,
+) -> Result<Option<Offer>, NoMemory>
+    requires graph { (g : Roads) × IsGraph g × AreSearchesOf g request.now searches.now }
+    requires moment { request.now.moment ≤ latest_moment }
+    requires front { front.now.time ≤ latest_front }
+    requires offset { front.now.offset < 2 ^ 53 }
+    ensures { IfOk result (λ best. (g : Roads) (car : CarOf) → IsGraph g
+        → AreSearchesOf g request.now searches.now → IsCarOf vehicle schedule.now car
+        → IsBestFrom g params.now vehicle.place car front.now request.now best) }
+{
+    gather(searches, front, schedule.stops(), ways)?;
+    match searches.from_pickup(request.dropoff) {
+        None => Ok(None),
+        Some(direct) => Ok(best_from(vehicle, schedule, front, params, request, direct, ways)),
+    }
+}
+
+/// The entry of the vehicle in a place of a view, by whole searches.
+fn entry_at<F: FleetView>(
+    view: &F,
+    place: usize,
+    request: &Request,
+    searches: &Searches,
+    ways: &mut Vec<NodeWays>,
+) -> Result<Candidate, NoMemory>
+    requires place { place < length (F.fleet view.now).cars }
+    requires searched { IsSearchedFor (F.fleet view.now) request.now searches.now }
+    ensures { IfOk result (λ e. (g : Roads) → IsGraph g → AreSearchesOf g request.now searches.now
+        → IsEntryAt g (F.fleet view.now) request.now place e) }
+{
+    let schedule = view.schedule(place);
+    let front = schedule.front(view.clock());
+    let vehicle = Standing {
+        no: view.no(place),
+        place,
+    };
+    let params = view.params();
+    let best = best_by_searches(vehicle, schedule, &front, params, request, searches, ways)?;
+    Ok(Candidate { place, front, best })
+}
+
+/// The node of stop k, and of the front for 0.
+fn node_at(stops: &[Stop], front: &Front, k: usize) -> NodeNo
+    requires { k ≤ length stops.now }
+    ensures { result ≡ node_of_stop front.now stops.now k }
+{
+    if k == 0 {
+        front.node
+    } else {
+        stops[k - 1].node
+    }
+}
+
+/// The walks side by side, as many as there are.
+fn in_order(
+    alloc: Global,
+    before_pickup: Walk,
+    after_pickup: Walk,
+    before_dropoff: Option<Walk>,
+    after_dropoff: Option<Walk>,
+) -> NewWalks
+    ensures { result ≡ before_pickup ∷ after_pickup ∷ option_to_list before_dropoff ++ option_to_list after_dropoff }
+{
+    let mut walks = NewWalks::new(alloc);
+    walks.push(before_pickup);
+    walks.push(after_pickup);
+    match (before_dropoff, after_dropoff) {
+        (None, None) => {}
+        (Some(walk), None) | (None, Some(walk)) => walks.push(walk),
+        (Some(before_dropoff), Some(after_dropoff)) => {
+            walks.push(before_dropoff);
+            walks.push(after_dropoff);
+        }
+    }
+    walks
+}
+
+/// A least walk between two nodes of which one reaches the other.
+fn walk_between<L>(
+    alloc: Global,
+    graph: &Graph,
+    from: NodeNo,
+    to: NodeNo,
+    steps: &mut Steps<L>,
+) -> Result<Walk, NoMemory>
+    requires { HasDistance graph.now from to }
+    ensures walk { IfOk result (IsLeastWalk graph.now from to) }
+    ensures steps { steps.old.0 ≤ steps.new.0 }
+    ensures asks { steps.new.1 ≡ steps.old.1 }
+{
+    let _ = graph.nodes();
+    let walk = least_walk(alloc, graph, from, to, steps)?;
+    Ok(walk.unwrap())
+}
+
+/// Least walks of the legs that an insertion changes, in rising order of leg. Each of them has a walk.
+fn changed_walks<L>(
+    alloc: Global,
+    graph: &Graph,
+    stops: &[Stop],
+    front: &Front,
+    request: &Request,
+    at: Insertion,
+    steps: &mut Steps<L>,
+) -> Result<NewWalks, NoMemory>
+    requires order { at.i ≤ at.j }
+    requires within { at.j ≤ length stops.now }
+    requires there { HaveDistances graph.now (changed_ends stops.now front.now request.now at) }
+    ensures least { IfOk result
+        (AreLeastWalks graph.now (changed_ends stops.now front.now request.now at)) }
+    ensures steps { steps.old.0 ≤ steps.new.0 }
+    ensures asks { steps.new.1 ≡ steps.old.1 }
+{
+    let before = node_at(stops, front, at.i);
+    let before_pickup = walk_between(alloc, graph, before, request.pickup, steps)?;
+    let after_dropoff = if at.j < stops.len() {
+        let behind = node_at(stops, front, at.j + 1);
+        Some(walk_between(alloc, graph, request.dropoff, behind, steps)?)
+    } else {
+        None
+    };
+    if at.i == at.j {
+        let between = walk_between(alloc, graph, request.pickup, request.dropoff, steps)?;
+        return Ok(in_order(alloc, before_pickup, between, None, after_dropoff));
+    }
+    let next = node_at(stops, front, at.i + 1);
+    let after_pickup = walk_between(alloc, graph, request.pickup, next, steps)?;
+    let last = node_at(stops, front, at.j);
+    let before_dropoff = walk_between(alloc, graph, last, request.dropoff, steps)?;
+    Ok(in_order(
+        alloc,
+        before_pickup,
+        after_pickup,
+        Some(before_dropoff),
+        after_dropoff,
+    ))
+}
+
+/// Prices every vehicle of a view by whole searches of a graph.
+#[derive(Clone, Copy)]
+pub struct PlainPricer<'g> {
+    graph: &'g Graph,
+}
+
+impl<'g> PlainPricer<'g> {
+    /// A pricer over this graph.
+    pub fn new(graph: &'g Graph) -> PlainPricer<'g>
+        ensures { result.graph.now ≡ graph.now }
+    {
+        PlainPricer { graph }
+    }
+}
+
+impl<'g, F: FleetView> Pricer<F> for PlainPricer<'g> {
+    ghost graph = { λ p. p.graph.now };
+
+    fn price<L>(
+        &self,
+        alloc: Global,
+        view: &F,
+        request: &Request,
+        steps: &mut Steps<L>,
+    ) -> Result<Candidates, NoMemory> {
+        let searches = Searches::of(alloc, self.graph, request, steps)?;
+        steps.ask(view.count());
+        let mut ways = Vec::new(alloc);
+        let mut entries = Items::new(alloc);
+        for place in 0..view.count() {
+            entries.push(entry_at(view, place, request, &searches, &mut ways)?)?;
+        }
+        Ok(Candidates {
+            base: view.version(),
+            entries,
+            floor: Floor::All,
+        })
+    }
+
+    fn one<L>(
+        &self,
+        alloc: Global,
+        view: &F,
+        place: usize,
+        request: &Request,
+        steps: &mut Steps<L>,
+    ) -> Result<Option<Offer>, NoMemory> {
+        let searches = Searches::of(alloc, self.graph, request, steps)?;
+        steps.ask(1);
+        let mut ways = Vec::new(alloc);
+        let entry = entry_at(view, place, request, &searches, &mut ways)?;
+        Ok(entry.best)
+    }
+
+    fn direct<L>(
+        &self,
+        alloc: Global,
+        request: &Request,
+        steps: &mut Steps<L>,
+    ) -> Result<Option<u64>, NoMemory> {
+        let walk = least_walk(alloc, self.graph, request.pickup, request.dropoff, steps)?;
+        steps.ask(1);
+        match walk {
+            None => Ok(None),
+            Some(walk) => Ok(Some(walk.length())),
+        }
+    }
+
+    fn walks<L>(
+        &self,
+        alloc: Global,
+        view: &F,
+        request: &Request,
+        offer: &Offer,
+        steps: &mut Steps<L>,
+    ) -> Result<NewWalks, NoMemory> {
+        steps.ask(1);
+        let schedule = view.schedule(offer.place);
+        let front = schedule.front(view.clock());
+        changed_walks(
+            alloc,
+            self.graph,
+            schedule.stops(),
+            &front,
+            request,
+            offer.at,
+            steps,
+        )
+    }
+}

@@ -1,0 +1,79 @@
+ghost use Rattle.std.specs.Prelude.{◌≡◌, ◌≤◌, ◌∷◌, map, OnOk, IfOk};
+ghost use Rattle.road_graph.specs.Roads.{IsNode};
+ghost use Rattle.plain_search.specs.Reaching.{distance_of};
+ghost use Rattle.insertion_cost.specs.Searches.{AreSearchesOf, ways_at, ways_along};
+
+use crate::node_ways::NodeWays;
+use plain_search::{Reach, reach_from, reach_to};
+use ride_base::NoMemory;
+use road_graph::{Graph, NodeNo, Steps};
+use std::alloc::Global;
+use stop_schedule::{Front, Request, Stop};
+
+/// What searches of a whole graph reach, from and to both nodes of a request.
+#[derive(Drop)]
+pub struct Searches {
+    to_pickup: Reach,
+    from_pickup: Reach,
+    to_dropoff: Reach,
+    from_dropoff: Reach,
+}
+
+impl Searches {
+    /// Searches the whole graph from and to both nodes.
+    pub fn of<L>(
+        alloc: Global,
+        graph: &Graph,
+        request: &Request,
+        steps: &mut Steps<L>,
+    ) -> Result<Searches, NoMemory>
+        requires pickup { IsNode graph.now request.now.pickup }
+        requires dropoff { IsNode graph.now request.now.dropoff }
+        ensures searches { IfOk result (AreSearchesOf graph.now request.now) }
+        ensures steps { steps.old.0 ≤ steps.new.0 }
+        ensures asks { steps.new.1 ≡ steps.old.1 }
+    {
+        Ok(Searches {
+            to_pickup: reach_to(alloc, graph, request.pickup, None, steps)?,
+            from_pickup: reach_from(alloc, graph, request.pickup, None, steps)?,
+            to_dropoff: reach_to(alloc, graph, request.dropoff, None, steps)?,
+            from_dropoff: reach_from(alloc, graph, request.dropoff, None, steps)?,
+        })
+    }
+
+    /// The distance from the pickup to a node. None where there is no walk.
+    pub fn from_pickup(&self, node: NodeNo) -> Option<u64>
+        ensures { result ≡ distance_of self.now.from_pickup.listed node }
+    {
+        self.from_pickup.distance(node)
+    }
+
+    /// The distances between a node and the two nodes of the request.
+    pub fn ways_at(&self, node: NodeNo) -> NodeWays
+        ensures { result ≡ ways_at self.now node }
+    {
+        NodeWays {
+            to_pickup: self.to_pickup.distance(node),
+            from_pickup: self.from_pickup.distance(node),
+            to_dropoff: self.to_dropoff.distance(node),
+            from_dropoff: self.from_dropoff.distance(node),
+        }
+    }
+}
+
+/// Puts the distances of the front's node and of each stop's in the place of what was there.
+pub fn gather(
+    searches: &Searches,
+    front: &Front,
+    stops: &[Stop],
+    ways: &mut Vec<NodeWays>,
+) -> Result<(), NoMemory>
+    ensures { OnOk result (ways.new.items ≡ ways_along searches.now front.now stops.now) }
+{
+    ways.clear();
+    ways.push(searches.ways_at(front.node))?;
+    for stop in stops {
+        ways.push(searches.ways_at(stop.node))?;
+    }
+    Ok(())
+}
