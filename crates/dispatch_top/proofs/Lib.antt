@@ -1,15 +1,20 @@
-pub mod Accepting
-pub mod Completing
-pub mod Fronts
-pub mod Histories
-pub mod Legs
-pub mod Offering
-pub mod Planning
-pub mod Reaches
-pub mod Running
-pub mod Spanning
-pub mod Standing
-pub mod Streaming
-pub mod Taking
-pub mod Trying
-pub mod Walking
+mod AreSpansOf
+mod Behaves
+mod ChangedEnds
+mod ChangedWalks
+mod Completes
+mod Decides
+mod EndsReading
+mod EndsStream
+mod EndsUnmoved
+mod IsAccepted
+mod IsBestOfTried
+mod IsErr
+mod IsHistoryOf
+mod IsOnItsWay
+mod IsOnlyOffer
+mod IsWholeReach
+mod LeastWalks
+mod NoWalkOutside
+mod ReadTexts
+mod RidesIn

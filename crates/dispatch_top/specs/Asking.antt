@@ -1,14 +1,22 @@
-use Rattle.dispatch_top.specs.declared.words.Asked.{Asked}
-use Rattle.dispatch_top.specs.declared.words.Task.{Task as TaskOf}
-use Rattle.dispatch_top.specs.declared.words.Task.TheVariants as words
-use Rattle.dispatch_top.specs.Tasks.{Answering, Task, Answer, Later, Unknown}
+use Rattle.std.specs.Prelude.{◌≡◌, false, Option, Some, None}
+use Rattle.command_words.specs.Commands.{Form, Run, Walk}
+use Rattle.dispatch_top.specs.declared.words.RunNames.{RunNames}
+use Rattle.dispatch_top.specs.declared.words.Task.{Task}
+use Rattle.dispatch_top.specs.declared.words.Task.TheVariants as task
+use Rattle.dispatch_top.specs.Forms.{is_answered}
 
--- the names and parameters that are asked for
-abbrev pub asking : Asked → Answering
-asking asked = record { graph = asked.graph.now; fleet = asked.fleet.now; stream = asked.stream.now; rates = asked.params }
+-- what a stream that is to be answered is asked for by
+abbrev pub run_form : RunNames → Form
+run_form asked = Run asked.graph.now asked.fleet.now asked.stream.now (record { rates = asked.params; window = None; proof = false })
+
+-- a form that isn't answered yet
+abbrev pub IsLater : Option Form → Type 0
+IsLater None = ⊥
+IsLater (Some form) = is_answered form ≡ false
 
 -- what a task of the code stands for
-abbrev pub asked_task : TaskOf → Task
-asked_task (words.Answer asked) = Answer (asking asked)
-asked_task words.Later = Later
-asked_task words.Unknown = Unknown
+abbrev pub AsksFor : Task → Option Form → Type 0
+AsksFor (task.Run asked) form = form ≡ Some (run_form asked)
+AsksFor (task.Walk graph from to) form = form ≡ Some (Walk graph.now from to)
+AsksFor task.Later form = IsLater form
+AsksFor task.Unknown form = form ≡ None

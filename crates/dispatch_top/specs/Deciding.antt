@@ -1,4 +1,5 @@
 use Rattle.std.specs.Prelude.{◌≡◌, ℕ, false, List, [], ◌∷◌, Some, slice_get, refl}
+use Rattle.ride_base.specs.declared.numbers.RequestNo.{RequestNo}
 use Rattle.road_graph.specs.declared.road.NodeNo.{NodeNo}
 use Rattle.road_graph.specs.Paths.{Path}
 use Rattle.road_graph.specs.Roads.{Roads}
@@ -13,9 +14,10 @@ use Rattle.stop_schedule.specs.Rates.{usual}
 use Rattle.stop_schedule.specs.Samples.{at, car_1, first, ride}
 use Rattle.insertion_cost.specs.declared.decision.Decision.{Decision}
 use Rattle.insertion_cost.specs.declared.offer.Offer.{Offer}
-use Rattle.insertion_cost.specs.Distances.{AreDistances, AreLeastWalks}
+use Rattle.stop_schedule.specs.Distances.{AreDistances, AreLeastWalks}
 use Rattle.board_core.specs.declared.entry.Entry.TheVariants.{Commit}
-use Rattle.board_core.specs.Boards.{Answer, Board, Waiting, opening_car}
+use Rattle.board_core.specs.declared.waiting.Waiting.{Waiting}
+use Rattle.board_core.specs.Boards.{Board, opening_car}
 use Rattle.board_core.specs.Steps.{Step, taken_on}
 use Rattle.dispatch_top.specs.Opening.{opening_fleet}
 use Rattle.dispatch_top.specs.Streams.{as_waiting}
@@ -29,25 +31,25 @@ pub record HaveDistances (g : Roads) (ends : List (NodeNo × NodeNo)) : Type 0 w
   pub lengths : List ℕ
   pub are : AreDistances g ends lengths
 
--- an open board with this fleet, these requests that wait and these answers
-abbrev pub open_board : (nodes : ℕ) → Cars → List Waiting → List Answer → Board
-open_board nodes fleet waiting answers = record { nodes = nodes; fleet = fleet; closed = false; waiting = waiting; answers = answers }
+-- an open board with this fleet, these requests that wait and these answers, on which nobody cancelled
+abbrev pub open_board : (nodes : ℕ) → Cars → List Waiting → List (RequestNo × Decision) → Board
+open_board nodes fleet waiting answers = record { nodes = nodes; fleet = fleet; closed = false; waiting = waiting; answers = answers; cancelled = [] }
 
 -- the board on which one request waits alone, and the one on which it has its answer
 abbrev pub asking_board : (nodes : ℕ) → Cars → Request → Board
 asking_board nodes fleet r = open_board nodes fleet (as_waiting r ∷ []) []
 
 abbrev pub answering_board : (nodes : ℕ) → Cars → Request → Decision → Board
-answering_board nodes fleet r decision = open_board nodes fleet [] (record { number = r.no; decision = decision } ∷ [])
+answering_board nodes fleet r decision = open_board nodes fleet [] ((r.no, decision) ∷ [])
 
--- the walks are least walks of the legs that an offer changes, and this is the schedule with the request
-pub record IsPlanned (g : Roads) (fleet : Cars) (r : Request) (o : Offer) (walks : List Path) (planned : Plan) : Type 0 where
+-- the walks are least walks of the legs that an offer changes, and this is its vehicle's schedule with the request put in
+pub record IsPlanWithRequest (g : Roads) (fleet : Cars) (r : Request) (o : Offer) (walks : List Path) (plan : Plan) : Type 0 where
   pub direct : ℕ
   pub car : Car
   pub direct_way : IsDist g r.pickup r.dropoff direct
   pub stands : slice_get fleet.cars o.place ≡ Some car
   pub least : AreLeastWalks g (changed_ends car.plan.stops (front_of car.plan fleet.clock) r o.at) walks
-  pub is : planned ≡ (taken_on (asking_board g.nodes fleet r) car r direct (record { offer = o; walks = walks })).plan
+  pub is : plan ≡ (taken_on (asking_board g.nodes fleet r) car r direct (record { offer = o; walks = walks })).plan
 
 -- from 2 to 4, on the line of four nodes
 first_taken_on : taken_on (asking_board 4 (opening_fleet usual (car_1 ∷ [])) (ride 1 2 4 0 1)) (opening_car car_1) (ride 1 2 4 0 1) 20

@@ -5,9 +5,10 @@ use Rattle.stop_schedule.specs.Rates.{usual}
 use Rattle.stop_schedule.specs.Samples.{ride}
 use Rattle.input_tables.specs.declared.faults.StreamFault.{StreamFault}
 use Rattle.input_tables.specs.declared.lines.StreamLine.{StreamLine}
-use Rattle.input_tables.specs.declared.lines.StreamLine.TheVariants.{Ride, Move, Nothing}
+use Rattle.input_tables.specs.declared.lines.StreamLine.TheVariants.{Ride, Move, Cancel, Nothing}
 use Rattle.input_tables.specs.Streams.{stream_line_of}
-use Rattle.board_core.specs.Boards.{Board, Waiting, opening_board}
+use Rattle.board_core.specs.declared.waiting.Waiting.{Waiting}
+use Rattle.board_core.specs.Boards.{Board, opening_board}
 use Rattle.board_core.specs.Steps.{refusal}
 
 -- What a stream says: the rides that are answered, and how far they go.
@@ -28,7 +29,7 @@ is_accepted nodes before r = is_none (refusal (board_behind nodes before) r)
 pub data StreamEnd : Type 0 where
   -- at the end of the text
   AtEnd : StreamEnd
-  -- at a line that isn't answered yet: a move of the clock, or a ride that isn't accepted
+  -- at a line that isn't answered yet: a move of the clock, a cancellation, or a ride that isn't accepted
   AtLater : StreamEnd
   -- at the first bad line, of this number
   AtBad : ℕ → StreamEnd
@@ -47,6 +48,7 @@ onto_rides r rest = record rest { rides = r ∷ rest.rides }
 abbrev pub from_line : (nodes : ℕ) → List Request → (line : ℕ) → Result StreamLine StreamFault → (nothing : Rides) → (Request → Rides) → Rides
 from_line nodes before line (Ok (Ride r)) nothing another = cond (is_accepted nodes before r) (onto_rides r (another r)) (no_more AtLater)
 from_line nodes before line (Ok (Move now)) nothing another = no_more AtLater
+from_line nodes before line (Ok (Cancel number)) nothing another = no_more AtLater
 from_line nodes before line (Ok Nothing) nothing another = nothing
 from_line nodes before line (Err fault) nothing another = no_more (AtBad line)
 
@@ -71,7 +73,7 @@ two_rides = refl
 repeated : rides_of 4 (line_of (codes "r 1 2 4 0 1") ++ codes "r 1 3 4 0 1") ≡ record { rides = ride 1 2 4 0 1 ∷ []; ends = AtLater }
 repeated = refl
 
--- a board takes 1 to 16 riders, between its nodes
+-- a board takes at most 16 riders on seats and 16 in wheelchair spaces, and one at least, between its nodes
 full_group : rides_of 4 (codes "r 1 2 4 0 16") ≡ record { rides = ride 1 2 4 0 16 ∷ []; ends = AtEnd }
 full_group = refl
 
@@ -80,6 +82,15 @@ too_many_riders = refl
 
 behind_the_last_node : rides_of 4 (codes "r 1 2 5 0 1") ≡ no_more AtLater
 behind_the_last_node = refl
+
+no_rider : rides_of 4 (codes "r 1 2 4 0 0") ≡ no_more AtLater
+no_rider = refl
+
+in_a_chair : rides_of 4 (codes "r 1 2 4 0 0 1") ≡ record { rides = record (ride 1 2 4 0 0) { spaces = 1 } ∷ []; ends = AtEnd }
+in_a_chair = refl
+
+cancelled : rides_of 4 (codes "y 1") ≡ no_more AtLater
+cancelled = refl
 
 moved : rides_of 4 (line_of (codes "t 5") ++ codes "q") ≡ no_more AtLater
 moved = refl

@@ -1,6 +1,8 @@
-use Rattle.std.specs.Prelude.{◌≡◌, None}
+use Rattle.std.specs.Prelude.{◌≡◌, Option, None, MatchOption}
 use Rattle.road_graph.specs.declared.road.NodeNo.{NodeNo}
+use Rattle.road_graph.specs.Paths.{Path}
 use Rattle.road_graph.specs.Roads.{Roads}
+use Rattle.road_graph.specs.Walks.{IsLeastWalk, NoWalk}
 use Rattle.plain_search.specs.declared.reached.Way.{Way}
 use Rattle.plain_search.specs.declared.reached.Way.TheVariants.{From, To}
 use Rattle.plain_search.specs.Reaching.{Listing, IsReach}
@@ -15,7 +17,7 @@ pub record IsWholeReach (g : Roads) (way : Way) (start : NodeNo) (s : Listing) :
   pub unbounded : s.radius ≡ None
 
 -- the reaches of a request's two nodes, in both ways
-pub record AreWaysOf (g : Roads) (r : Request) (ways : Ways) : Type 0 where
+pub record AreReachesOf (g : Roads) (r : Request) (ways : Ways) : Type 0 where
   pub to_pickup : IsWholeReach g To r.pickup ways.to_pickup
   pub from_pickup : IsWholeReach g From r.pickup ways.from_pickup
   pub to_dropoff : IsWholeReach g To r.dropoff ways.to_dropoff
@@ -24,4 +26,8 @@ pub record AreWaysOf (g : Roads) (r : Request) (ways : Ways) : Type 0 where
 -- they were searched over some graph
 pub record AreSearched (r : Request) (ways : Ways) : Type 0 where
   pub graph : Roads
-  pub are_ways : AreWaysOf graph r ways
+  pub are_ways : AreReachesOf graph r ways
+
+-- a least walk from one node to another, or none where there is no walk
+abbrev pub IsLeastWalkOrNone : Roads → NodeNo → NodeNo → Option Path → Type 0
+IsLeastWalkOrNone g u v found = MatchOption found (NoWalk g u v) (IsLeastWalk g u v)

@@ -1,13 +1,15 @@
 ghost use Rattle.std.specs.Prelude.{◌≡◌, ◌<◌, ◌≤◌, ◌^◌, ◌∷◌, ◌++◌, length, option_to_list, IfOk, OnErr};
 ghost use Rattle.road_graph.specs.Roads.{IsNode};
+ghost use Rattle.stop_schedule.specs.Distances.{AreLeastWalks};
+ghost use Rattle.stop_schedule.specs.Limits.{latest_moment, most_riders};
 ghost use Rattle.stop_schedule.specs.Lists.{changed_ends};
-ghost use Rattle.insertion_cost.specs.Distances.{AreLeastWalks};
 ghost use Rattle.insertion_cost.specs.Offers.{IsOffer};
-ghost use Rattle.dispatch_top.specs.Ways.{AreWaysOf};
-ghost use Rattle.dispatch_top.specs.Choosing.{AllStandAtFirst};
-ghost use Rattle.dispatch_top.specs.Deciding.{AllHaveLeastWalks, Decides, HaveDistances, IsPlanned};
+ghost use Rattle.dispatch_top.specs.Ways.{AreReachesOf};
+ghost use Rattle.dispatch_top.specs.Choosing.{AreOverGraphs};
+ghost use Rattle.dispatch_top.specs.Deciding.{AllHaveLeastWalks, Decides, HaveDistances};
+ghost use Rattle.dispatch_top.specs.Deciding.{IsPlanWithRequest};
 
-use crate::choosing::{best_of_fleet, front_at_first, node_at};
+use crate::choosing::{best_of_fleet, node_at};
 use crate::fleet::Fleet;
 use crate::ways::Ways;
 use insertion_cost::{Assigned, Decision, Offer, promise};
@@ -24,7 +26,8 @@ fn in_order(
     before_dropoff: Option<Walk>,
     after_dropoff: Option<Walk>,
 ) -> NewWalks
-    ensures { result ≡ before_pickup ∷ after_pickup ∷ option_to_list before_dropoff ++ option_to_list after_dropoff }
+    ensures { result ≡ before_pickup ∷ after_pickup
+        ∷ option_to_list before_dropoff ++ option_to_list after_dropoff }
 {
     let mut walks = NewWalks::new(alloc);
     walks.push(before_pickup);
@@ -53,9 +56,10 @@ fn changed_walks<L>(
 ) -> Result<NewWalks, NoMemory>
     requires order { at.i ≤ at.j }
     requires within { at.j ≤ length stops.now }
-    requires ways { AreWaysOf graph.now request.now ways.now }
+    requires ways { AreReachesOf graph.now request.now ways.now }
     requires there { HaveDistances graph.now (changed_ends stops.now front.now request.now at) }
-    ensures least { IfOk result (AreLeastWalks graph.now (changed_ends stops.now front.now request.now at)) }
+    ensures least { IfOk result
+        (AreLeastWalks graph.now (changed_ends stops.now front.now request.now at)) }
     ensures asks { steps.new.1 ≡ steps.old.1 }
 {
     let node = node_at(stops, front, at.i);
@@ -95,18 +99,20 @@ fn planned<L>(
     offer: &Offer,
     steps: &mut Steps<L>,
 ) -> Result<(NewWalks, Schedule), NoMemory>
-    requires moment { request.now.moment ≤ 2 ^ 40 }
-    requires riders { request.now.riders ≤ 16 }
-    requires at_first { AllStandAtFirst fleet.now }
-    requires ways { AreWaysOf graph.now request.now ways.now }
+    requires moment { request.now.moment ≤ latest_moment }
+    requires riders { request.now.riders ≤ most_riders }
+    requires spaces { request.now.spaces ≤ most_riders }
+    requires over { AreOverGraphs fleet.now }
+    requires ways { AreReachesOf graph.now request.now ways.now }
     requires offer { IsOffer graph.now fleet.now request.now offer.now }
-    ensures planned { IfOk result (λ both. IsPlanned graph.now fleet.now request.now offer.now both.0 both.1) }
+    ensures planned { IfOk result
+        (λ both. IsPlanWithRequest graph.now fleet.now request.now offer.now both.0 both.1) }
     ensures asks { steps.new.1 ≡ steps.old.1 }
 {
     let schedule = fleet.car(offer.place).schedule();
     let stops = schedule.stops();
     let params = fleet.params();
-    let front = front_at_first(schedule, params);
+    let front = schedule.front(0);
     let direct = ways.from_pickup(request.dropoff).unwrap();
     let promise = promise(params, request, direct, offer.leave, offer.arrive);
     let walks = changed_walks(alloc, graph, ways, stops, &front, request, offer.at, steps)?;
@@ -124,8 +130,9 @@ pub(crate) fn decide<L>(
 ) -> Result<Decision, NoMemory>
     requires pickup { IsNode graph.now request.now.pickup }
     requires dropoff { IsNode graph.now request.now.dropoff }
-    requires moment { request.now.moment ≤ 2 ^ 40 }
-    requires riders { request.now.riders ≤ 16 }
+    requires moment { request.now.moment ≤ latest_moment }
+    requires riders { request.now.riders ≤ most_riders }
+    requires spaces { request.now.spaces ≤ most_riders }
     requires version { fleet.old.version < 2 ^ 62 }
     requires least { AllHaveLeastWalks graph.now fleet.old }
     ensures ok { IfOk result (λ d. Decides graph.now fleet.old request.now d fleet.new) }

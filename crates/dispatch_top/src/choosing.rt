@@ -1,29 +1,18 @@
-ghost use Rattle.std.specs.Prelude.{◌≡◌, ℕ, ◌+◌, ◌<◌, ◌≤◌, ◌^◌, length, slice_get, Some, IfSome};
+ghost use Rattle.std.specs.Prelude.{◌≡◌, ◌+◌, ◌<◌, ◌≤◌, length, IfSome};
 ghost use Rattle.road_graph.specs.Roads.{Roads};
-ghost use Rattle.stop_schedule.specs.Fleets.{Car as CarOf};
+ghost use Rattle.stop_schedule.specs.Fleets.{OfCar};
+ghost use Rattle.stop_schedule.specs.Limits.{latest_moment};
 ghost use Rattle.stop_schedule.specs.Lists.{node_at as node_of_stop, changed_ends};
-ghost use Rattle.stop_schedule.specs.Fronts.{front_of};
-ghost use Rattle.dispatch_top.specs.Ways.{AreWaysOf, AreSearched};
-ghost use Rattle.dispatch_top.specs.Choosing.{AllStandAtFirst, AreSpansOf, HaveShape, IsPairOf, IsOnlyOffer, IsBestOfTried, IsBestOrNone, StandsAtFirst};
+ghost use Rattle.insertion_cost.specs.NodeWays.{AreSpansOf, HaveShape};
+ghost use Rattle.dispatch_top.specs.Ways.{AreReachesOf, AreSearched};
+ghost use Rattle.dispatch_top.specs.Choosing.{AreOverGraphs, IsPairOf, IsOnlyOffer};
+ghost use Rattle.dispatch_top.specs.Choosing.{IsBestOfTried, IsBestOrNone};
 
 use crate::fleet::Fleet;
 use crate::ways::Ways;
-use insertion_cost::{Offer, Spans, price, sooner};
+use insertion_cost::{Offer, Spans, first_of_two, price};
 use road_graph::NodeNo;
-use stop_schedule::{Front, Insertion, Params, Request, Schedule, Stop};
-
-/// Where a vehicle can turn while the clock stands at 0: at its place, when it leaves.
-pub(crate) fn front_at_first(schedule: &Schedule, params: &Params) -> Front
-    requires { StandsAtFirst schedule.now }
-    ensures value { result ≡ front_of schedule.now 0 }
-    ensures time { result.time ≡ schedule.now.departure }
-{
-    Front {
-        node: schedule.place(),
-        time: schedule.dep(params, 0),
-        offset: 0,
-    }
-}
+use stop_schedule::{Front, Insertion, Request, Stop};
 
 /// The node of stop k, and of the front for 0.
 pub(crate) fn node_at(stops: &[Stop], front: &Front, k: usize) -> NodeNo
@@ -47,7 +36,8 @@ fn spans(
 ) -> Option<Spans>
     requires order { at.i ≤ at.j }
     requires within { at.j ≤ length stops.now }
-    ensures exact { (g : Roads) → AreWaysOf g request.now ways.now → AreSpansOf g (changed_ends stops.now front.now request.now at) result }
+    ensures exact { (g : Roads) → AreReachesOf g request.now ways.now
+        → AreSpansOf g (changed_ends stops.now front.now request.now at) result }
     ensures shape { IfSome result (HaveShape (length stops.now) at) }
 {
     let before_pickup = ways.to_pickup(node_at(stops, front, at.i))?;
@@ -85,16 +75,17 @@ fn offer_at(
 ) -> Option<Offer>
     requires place { place < length fleet.now.cars }
     requires pair { IsPairOf fleet.now place at }
-    requires moment { request.now.moment ≤ 2 ^ 40 }
-    requires at_first { AllStandAtFirst fleet.now }
+    requires moment { request.now.moment ≤ latest_moment }
+    requires over { AreOverGraphs fleet.now }
     requires searched { AreSearched request.now ways.now }
-    ensures { (g : Roads) → AreWaysOf g request.now ways.now → IsOnlyOffer g fleet.now request.now place at result }
+    ensures { (g : Roads) → AreReachesOf g request.now ways.now
+        → IsOnlyOffer g fleet.now request.now place at result }
 {
     let car = fleet.car(place);
     let schedule = car.schedule();
     let stops = schedule.stops();
     let params = fleet.params();
-    let front = front_at_first(schedule, params);
+    let front = schedule.front(0);
     let direct = ways.from_pickup(request.dropoff)?;
     let spans = spans(stops, &front, request, at, ways)?;
     let priced = price(schedule, &front, params, request, direct, &spans, at)?;
@@ -118,16 +109,18 @@ fn best_after_stop(
     so_far: Option<Offer>,
 ) -> Option<Offer>
     requires place { place < length fleet.now.cars }
-    requires pickup { (car : CarOf) → slice_get fleet.now.cars place ≡ Some car → i ≤ length car.plan.stops }
-    requires moment { request.now.moment ≤ 2 ^ 40 }
-    requires at_first { AllStandAtFirst fleet.now }
+    requires pickup { OfCar fleet.now place (λ car. i ≤ length car.plan.stops) }
+    requires moment { request.now.moment ≤ latest_moment }
+    requires over { AreOverGraphs fleet.now }
     requires searched { AreSearched request.now ways.now }
-    ensures { (g : Roads) → AreWaysOf g request.now ways.now → IsBestOfTried g fleet.now request.now place i i so_far → IsBestOfTried g fleet.now request.now place (i + 1) (i + 1) result }
+    ensures { (g : Roads) → AreReachesOf g request.now ways.now
+        → IsBestOfTried g fleet.now request.now place i i so_far
+        → IsBestOfTried g fleet.now request.now place (i + 1) (i + 1) result }
 {
     let stops = fleet.car(place).schedule().stops().len();
     let mut best = so_far;
     for j in i..stops + 1 {
-        best = sooner(
+        best = first_of_two(
             best,
             offer_at(fleet, place, request, Insertion { i, j }, ways),
         );
@@ -144,10 +137,12 @@ fn best_of_vehicle(
     so_far: Option<Offer>,
 ) -> Option<Offer>
     requires place { place < length fleet.now.cars }
-    requires moment { request.now.moment ≤ 2 ^ 40 }
-    requires at_first { AllStandAtFirst fleet.now }
+    requires moment { request.now.moment ≤ latest_moment }
+    requires over { AreOverGraphs fleet.now }
     requires searched { AreSearched request.now ways.now }
-    ensures { (g : Roads) → AreWaysOf g request.now ways.now → IsBestOfTried g fleet.now request.now place 0 0 so_far → IsBestOfTried g fleet.now request.now (place + 1) 0 0 result }
+    ensures { (g : Roads) → AreReachesOf g request.now ways.now
+        → IsBestOfTried g fleet.now request.now place 0 0 so_far
+        → IsBestOfTried g fleet.now request.now (place + 1) 0 0 result }
 {
     let stops = fleet.car(place).schedule().stops().len();
     let mut best = so_far;
@@ -159,10 +154,11 @@ fn best_of_vehicle(
 
 /// The best insertion over all vehicles and all pairs of places, or none where none is feasible.
 pub(crate) fn best_of_fleet(fleet: &Fleet, request: &Request, ways: &Ways) -> Option<Offer>
-    requires moment { request.now.moment ≤ 2 ^ 40 }
-    requires at_first { AllStandAtFirst fleet.now }
+    requires moment { request.now.moment ≤ latest_moment }
+    requires over { AreOverGraphs fleet.now }
     requires searched { AreSearched request.now ways.now }
-    ensures { (g : Roads) → AreWaysOf g request.now ways.now → IsBestOrNone g fleet.now request.now result }
+    ensures { (g : Roads) → AreReachesOf g request.now ways.now
+        → IsBestOrNone g fleet.now request.now result }
 {
     let mut best = None;
     for place in 0..fleet.count() {

@@ -1,5 +1,5 @@
-ghost use Rattle.std.specs.Prelude.{◌≡◌, ℕ, ◌+◌, ◌<◌, ◌^◌, length, IfOk, slice_get, slice_set, Some};
-ghost use Rattle.stop_schedule.specs.Fleets.{Car as CarOf, Cars};
+ghost use Rattle.std.specs.Prelude.{◌≡◌, ℕ, ◌+◌, ◌<◌, ◌^◌, length, IfOk, slice_get, Some};
+ghost use Rattle.stop_schedule.specs.Fleets.{OfCar};
 ghost use Rattle.stop_schedule.specs.declared.vehicle.Vehicle.{Vehicle as VehicleOf};
 
 use ride_base::{NoMemory, VehicleNo};
@@ -78,7 +78,7 @@ impl Model for Fleet {
 }
 
 impl Fleet {
-    ghost use Rattle.dispatch_top.specs.Opening.{IsInService, opening_fleet};
+    ghost use Rattle.dispatch_top.specs.Opening.{IsInService, opening_fleet, with_plan};
 
     /// The vehicles at their starts.
     pub(crate) fn opening(
@@ -135,7 +135,7 @@ impl Fleet {
     pub(crate) fn take(&mut self, place: usize, schedule: Schedule)
         requires place { place < length self.old.cars }
         requires version { self.old.version < 2 ^ 62 }
-        ensures { (car : CarOf) → slice_get self.old.cars place ≡ Some car → self.new ≡ record self.old { version = self.old.version + 1; cars = slice_set self.old.cars place (record car { plan = schedule; stamp = self.old.version + 1 }) } }
+        ensures { OfCar self.old place (λ car. self.new ≡ with_plan self.old place car schedule) }
     {
         let version = self.version + 1;
         self.version = version;

@@ -1,13 +1,17 @@
-// Answers the requests of a stream, from the bytes that are read to the bytes that are printed.
+//! `run`, from the words of a command line and the bytes of the texts that they name to the bytes that are printed.
+//! The program uses its clauses `ends` (how it ended by its status, and what was printed), `complete` and `behaves`.
 #![tactic(auto)]
 
 mod answer;
 mod choosing;
 mod ending;
 mod fleet;
+mod reading;
+mod run_mode;
 mod runs;
 mod status;
 mod stream;
+mod walk_mode;
 mod ways;
 mod words;
 

@@ -1,8 +1,8 @@
-ghost use Rattle.std.specs.Prelude.{◌≡◌, IfOk, MatchOption};
+ghost use Rattle.std.specs.Prelude.{◌≡◌, IfOk};
 ghost use Rattle.road_graph.specs.Roads.{Roads, IsNode};
-ghost use Rattle.road_graph.specs.Walks.{IsDist, IsLeastWalk, NoWalk};
 ghost use Rattle.plain_search.specs.Reaching.{IsReach};
 ghost use Rattle.stop_schedule.specs.declared.request.Request.{Request as RequestOf};
+ghost use Rattle.insertion_cost.specs.NodeWays.{IsDistOrNone};
 
 use plain_search::{Reach, reach_from, reach_to};
 use ride_base::NoMemory;
@@ -20,7 +20,7 @@ pub(crate) struct Ways {
 }
 
 impl Ways {
-    ghost use Rattle.dispatch_top.specs.Ways.{AreWaysOf};
+    ghost use Rattle.dispatch_top.specs.Ways.{AreReachesOf, IsLeastWalkOrNone};
 
     /// Searches the whole graph from and to both nodes.
     pub(crate) fn search<L>(
@@ -31,7 +31,7 @@ impl Ways {
     ) -> Result<Ways, NoMemory>
         requires pickup { IsNode graph.now request.now.pickup }
         requires dropoff { IsNode graph.now request.now.dropoff }
-        ensures ways { IfOk result (AreWaysOf graph.now request.now) }
+        ensures ways { IfOk result (AreReachesOf graph.now request.now) }
         ensures asks { steps.new.1 ≡ steps.old.1 }
     {
         Ok(Ways {
@@ -44,28 +44,32 @@ impl Ways {
 
     /// The distance from a node to the pickup, where there is a walk.
     pub(crate) fn to_pickup(&self, node: NodeNo) -> Option<u64>
-        ensures { (g : Roads) (r : RequestOf) → AreWaysOf g r self.now → MatchOption result (NoWalk g node r.pickup) (IsDist g node r.pickup) }
+        ensures { (g : Roads) (r : RequestOf) → AreReachesOf g r self.now
+            → IsDistOrNone g node r.pickup result }
     {
         self.to_pickup.distance(node)
     }
 
     /// The distance from the pickup to a node, where there is a walk.
     pub(crate) fn from_pickup(&self, node: NodeNo) -> Option<u64>
-        ensures { (g : Roads) (r : RequestOf) → AreWaysOf g r self.now → MatchOption result (NoWalk g r.pickup node) (IsDist g r.pickup node) }
+        ensures { (g : Roads) (r : RequestOf) → AreReachesOf g r self.now
+            → IsDistOrNone g r.pickup node result }
     {
         self.from_pickup.distance(node)
     }
 
     /// The distance from a node to the dropoff, where there is a walk.
     pub(crate) fn to_dropoff(&self, node: NodeNo) -> Option<u64>
-        ensures { (g : Roads) (r : RequestOf) → AreWaysOf g r self.now → MatchOption result (NoWalk g node r.dropoff) (IsDist g node r.dropoff) }
+        ensures { (g : Roads) (r : RequestOf) → AreReachesOf g r self.now
+            → IsDistOrNone g node r.dropoff result }
     {
         self.to_dropoff.distance(node)
     }
 
     /// The distance from the dropoff to a node, where there is a walk.
     pub(crate) fn from_dropoff(&self, node: NodeNo) -> Option<u64>
-        ensures { (g : Roads) (r : RequestOf) → AreWaysOf g r self.now → MatchOption result (NoWalk g r.dropoff node) (IsDist g r.dropoff node) }
+        ensures { (g : Roads) (r : RequestOf) → AreReachesOf g r self.now
+            → IsDistOrNone g r.dropoff node result }
     {
         self.from_dropoff.distance(node)
     }
@@ -79,7 +83,8 @@ impl Ways {
         steps: &mut Steps<L>,
     ) -> Result<Option<Walk>, NoMemory>
         requires { IsReach graph.now self.now.to_pickup }
-        ensures walk { (r : RequestOf) → AreWaysOf graph.now r self.now → IfOk result (λ found. MatchOption found (NoWalk graph.now node r.pickup) (IsLeastWalk graph.now node r.pickup)) }
+        ensures walk { (r : RequestOf) → AreReachesOf graph.now r self.now
+            → IfOk result (IsLeastWalkOrNone graph.now node r.pickup) }
         ensures asks { steps.new.1 ≡ steps.old.1 }
     {
         self.to_pickup.walk(alloc, graph, node, steps)
@@ -94,7 +99,8 @@ impl Ways {
         steps: &mut Steps<L>,
     ) -> Result<Option<Walk>, NoMemory>
         requires { IsReach graph.now self.now.from_pickup }
-        ensures walk { (r : RequestOf) → AreWaysOf graph.now r self.now → IfOk result (λ found. MatchOption found (NoWalk graph.now r.pickup node) (IsLeastWalk graph.now r.pickup node)) }
+        ensures walk { (r : RequestOf) → AreReachesOf graph.now r self.now
+            → IfOk result (IsLeastWalkOrNone graph.now r.pickup node) }
         ensures asks { steps.new.1 ≡ steps.old.1 }
     {
         self.from_pickup.walk(alloc, graph, node, steps)
@@ -109,7 +115,8 @@ impl Ways {
         steps: &mut Steps<L>,
     ) -> Result<Option<Walk>, NoMemory>
         requires { IsReach graph.now self.now.to_dropoff }
-        ensures walk { (r : RequestOf) → AreWaysOf graph.now r self.now → IfOk result (λ found. MatchOption found (NoWalk graph.now node r.dropoff) (IsLeastWalk graph.now node r.dropoff)) }
+        ensures walk { (r : RequestOf) → AreReachesOf graph.now r self.now
+            → IfOk result (IsLeastWalkOrNone graph.now node r.dropoff) }
         ensures asks { steps.new.1 ≡ steps.old.1 }
     {
         self.to_dropoff.walk(alloc, graph, node, steps)
@@ -124,7 +131,8 @@ impl Ways {
         steps: &mut Steps<L>,
     ) -> Result<Option<Walk>, NoMemory>
         requires { IsReach graph.now self.now.from_dropoff }
-        ensures walk { (r : RequestOf) → AreWaysOf graph.now r self.now → IfOk result (λ found. MatchOption found (NoWalk graph.now r.dropoff node) (IsLeastWalk graph.now r.dropoff node)) }
+        ensures walk { (r : RequestOf) → AreReachesOf graph.now r self.now
+            → IfOk result (IsLeastWalkOrNone graph.now r.dropoff node) }
         ensures asks { steps.new.1 ≡ steps.old.1 }
     {
         self.from_dropoff.walk(alloc, graph, node, steps)

@@ -1,7 +1,7 @@
 ghost use Rattle.std.specs.Prelude.{◌≡◌, IfOk, Some, map, string_bytes};
 ghost use Rattle.command_words.specs.Shown.{shown_form};
-ghost use Rattle.dispatch_top.specs.Asking.{asked_task};
-ghost use Rattle.dispatch_top.specs.Tasks.{task_in, task_of};
+ghost use Rattle.dispatch_top.specs.Asking.{AsksFor};
+ghost use Rattle.dispatch_top.specs.Forms.{is_of_run, kept_where, run_asks};
 
 use command_words::{Form, form};
 use ride_base::NoMemory;
@@ -10,7 +10,7 @@ use stop_schedule::Params;
 
 /// A stream that is to be answered, over a graph and a fleet, by their names.
 #[derive(Clone, Copy)]
-pub(crate) struct Asked<'a> {
+pub(crate) struct RunNames<'a> {
     pub(crate) graph: &'a str,
     pub(crate) fleet: &'a str,
     pub(crate) stream: &'a str,
@@ -21,7 +21,9 @@ pub(crate) struct Asked<'a> {
 #[derive(Clone, Copy)]
 pub(crate) enum Task<'a> {
     /// A stream is to be answered.
-    Answer(Asked<'a>),
+    Run(RunNames<'a>),
+    /// The least walk between two nodes of a graph is asked for.
+    Walk { graph: &'a str, from: u32, to: u32 },
     /// A form that isn't answered yet.
     Later,
     /// The words are none of the forms that `run` takes.
@@ -30,7 +32,7 @@ pub(crate) enum Task<'a> {
 
 /// What the words ask for.
 pub(crate) fn read_words<'a>(alloc: Global, words: &'a [String]) -> Result<Task<'a>, NoMemory>
-    ensures { IfOk result (λ task. asked_task task ≡ task_of (map string_bytes words.entry.now)) }
+    ensures { IfOk result (λ task. AsksFor task (run_asks (map string_bytes words.entry.now))) }
 {
     match form(alloc, words) {
         Ok(Some(form)) => Ok(task_of_form(&form)),
@@ -41,7 +43,7 @@ pub(crate) fn read_words<'a>(alloc: Global, words: &'a [String]) -> Result<Task<
 
 /// What a form asks for.
 fn task_of_form<'a>(form: &Form<'a>) -> Task<'a>
-    ensures { asked_task result ≡ task_in (Some (shown_form form.now)) }
+    ensures { AsksFor result (kept_where is_of_run (Some (shown_form form.now))) }
 {
     match form {
         Form::Run {
@@ -51,13 +53,18 @@ fn task_of_form<'a>(form: &Form<'a>) -> Task<'a>
             params,
             window: None,
             proof: false,
-        } => Task::Answer(Asked {
+        } => Task::Run(RunNames {
             graph: *graph,
             fleet: *fleet,
             stream: *stream,
             params: *params,
         }),
+        Form::Walk { graph, from, to } => Task::Walk {
+            graph: *graph,
+            from: *from,
+            to: *to,
+        },
         Form::Live { .. } => Task::Unknown,
-        Form::Run { .. } | Form::Audit { .. } | Form::Walk { .. } | Form::Gen { .. } => Task::Later,
+        Form::Run { .. } | Form::Audit { .. } | Form::Gen { .. } => Task::Later,
     }
 }

@@ -1,7 +1,7 @@
 use Rattle.std.proofs.Common.{◌+◌, Option, refl, sym, subst}
 use Rattle.road_graph.specs.Paths.{Path}
 use Rattle.stop_schedule.specs.Lists.{node_at}
-use Rattle.dispatch_top.proofs.Walking.{LeadsOut, found_to, found_from, least_to, least_from, leads_out, leads_nowhere, walks_together, walks_apart, way_begins, way_between, way_on, way_in, way_out}
+use Rattle.dispatch_top.proofs.ChangedWalks.{LeadsOut, found_to, found_from, least_to, least_from, leads_out, leads_nowhere, walks_together, walks_apart, way_begins, way_between, way_on, way_in, way_out}
 use Rattle.dispatch_top.proofs.answer.changed_walks.Goals as goal
 use Rattle.dispatch_top.proofs.answer.changed_walks.Goals.{then-at-stops+in_ok-walk_from_dropoff, else-at-stops}
 

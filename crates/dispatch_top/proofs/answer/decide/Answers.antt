@@ -1,12 +1,12 @@
-use Rattle.dispatch_top.proofs.Planning.{as_taken, as_turned_down, place_within}
-use Rattle.dispatch_top.proofs.Standing.{all_stand}
+use Rattle.dispatch_top.proofs.Decides.{as_taken, as_turned_down, place_within}
+use Rattle.dispatch_top.proofs.LeastWalks.{over_graphs}
 use Rattle.dispatch_top.proofs.answer.decide.Goals as goal
 
-pub best_of_fleet-requires-clause-at_first : goal.best_of_fleet-requires-clause-at_first
-best_of_fleet-requires-clause-at_first g c = all_stand c.args.graph.now c.args.fleet.now c.requires.least
+pub best_of_fleet-requires-clause-over : goal.best_of_fleet-requires-clause-over
+best_of_fleet-requires-clause-over g c = over_graphs c.args.graph.now c.args.fleet.now c.in_ok-ways.ensures.ways.to_pickup.is_reach.reached.graph c.requires.least
 
-pub planned-requires-clause-at_first : goal.planned-requires-clause-at_first
-planned-requires-clause-at_first g c = all_stand c.args.graph.now c.args.fleet.now c.requires.least
+pub planned-requires-clause-over : goal.planned-requires-clause-over
+planned-requires-clause-over g c = over_graphs c.args.graph.now c.args.fleet.now c.in_ok-ways.ensures.ways.to_pickup.is_reach.reached.graph c.requires.least
 
 pub take-requires-clause-place : goal.take-requires-clause-place
 take-requires-clause-place g c = place_within c.args.graph.now c.args.fleet.now c.args.request.now c.in-Some.offer c.in_ok-walks.walks c.in_ok-walks.schedule c.in_ok-walks.ensures.planned

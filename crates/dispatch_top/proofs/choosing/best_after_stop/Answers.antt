@@ -1,11 +1,11 @@
 use Rattle.std.proofs.Common.{ap, ◌∙◌}
 use Rattle.stop_schedule.specs.Plans.{Plan}
-use Rattle.dispatch_top.proofs.Trying.{one_tried, stop_tried, past_stops}
+use Rattle.dispatch_top.proofs.IsBestOfTried.{one_tried, stop_tried, past_stops}
 use Rattle.dispatch_top.proofs.choosing.best_after_stop.Goals as goal
 
 pub loop-j-preserved : goal.loop-j-preserved
 loop-j-preserved c =
-    λ g w t. one_tried g c.args.fleet.now c.args.request.now c.args.place c.args.i c.loop-j.j c.loop-j.best c.offer_at.result c.sooner-best.result (c.loop-j.invariant g w t) (c.offer_at.ensures g w) c.sooner-best.ensures
+    λ g w t. one_tried g c.args.fleet.now c.args.request.now c.args.place c.args.i c.loop-j.j c.loop-j.best c.offer_at.result c.first_of_two-best.result (c.loop-j.invariant g w t) (c.offer_at.ensures g w) c.first_of_two-best.ensures
 
 pub returns : goal.returns
 returns c =

@@ -1,5 +1,5 @@
 use Rattle.std.proofs.Common.{ℕ, ◌≤◌, subst}
-use Rattle.dispatch_top.proofs.Trying.{all_tried}
+use Rattle.dispatch_top.proofs.IsBestOfTried.{all_tried}
 use Rattle.dispatch_top.proofs.choosing.best_of_fleet.Goals as goal
 
 pub returns : goal.returns

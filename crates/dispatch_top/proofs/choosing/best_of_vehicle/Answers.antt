@@ -1,6 +1,6 @@
 use Rattle.std.proofs.Common.{ap, ◌∙◌}
 use Rattle.stop_schedule.specs.Plans.{Plan}
-use Rattle.dispatch_top.proofs.Trying.{vehicle_tried, past_stops}
+use Rattle.dispatch_top.proofs.IsBestOfTried.{vehicle_tried, past_stops}
 use Rattle.dispatch_top.proofs.choosing.best_of_vehicle.Goals as goal
 
 pub returns : goal.returns

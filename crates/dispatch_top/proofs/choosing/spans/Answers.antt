@@ -1,7 +1,7 @@
 use Rattle.std.proofs.Common.{ℕ, Option, sym, subst}
 use Rattle.road_graph.specs.declared.road.NodeNo.{NodeNo}
 use Rattle.road_graph.specs.Walks.{IsDist, NoWalk}
-use Rattle.dispatch_top.proofs.Spanning.{IsOut, some_out, none_out, no_way_on, no_way_in, no_way_out, ways_together, ways_apart}
+use Rattle.dispatch_top.proofs.AreSpansOf.{IsOut, some_out, none_out, no_way_on, no_way_in, no_way_out, ways_together, ways_apart}
 use Rattle.dispatch_top.proofs.choosing.spans.Goals as goal
 use Rattle.dispatch_top.proofs.choosing.spans.Goals.{then-at-stops+in_ok-from_dropoff, else-at-stops}
 

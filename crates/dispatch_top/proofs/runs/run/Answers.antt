@@ -1,23 +1,28 @@
-use Rattle.std.proofs.Common.{sym, ap, subst, ◌∙◌}
-use Rattle.std.specs.Prelude.{Err}
-use Rattle.dispatch_top.specs.Asking.{asked_task, asking}
-use Rattle.dispatch_top.specs.Runs.{AreGood}
-use Rattle.dispatch_top.specs.Tasks.{Answering, AreHeld}
-use Rattle.dispatch_top.proofs.Completing.{completes}
-use Rattle.dispatch_top.proofs.Running.{same_run, is_read_fault, is_write_fault}
+use Rattle.std.proofs.Common.{None, false, refl, subst}
+use Rattle.std.specs.Prelude.{map, string_bytes}
+use Rattle.command_words.specs.Commands.{Walk}
+use Rattle.dispatch_top.specs.declared.words.Task.{Task}
+use Rattle.dispatch_top.specs.Asking.{AsksFor, run_form}
+use Rattle.dispatch_top.specs.Calls.{seen_call}
+use Rattle.dispatch_top.specs.Endings.{ended_as}
+use Rattle.dispatch_top.specs.Forms.{run_asks}
+use Rattle.dispatch_top.proofs.Completes.{completes_as, run_completes, walk_completes}
+use Rattle.dispatch_top.proofs.EndsUnmoved.{complete_later, ends_unread}
 use Rattle.dispatch_top.proofs.runs.run.Goals as goal
 
-pub returns-in-Ok-clause-silent : goal.returns-in-Ok-clause-silent
-returns-in-Ok-clause-silent g c = λ a e sure held. c.in-Ok.ensures.silent sure (subst (λ (x : Answering). AreHeld x (g.S.Shelf.held c.args.shelf.now)) (same_run (asking c.in-Ok-Answer.asked) a _ (sym (ap asked_task c.in-Ok-Answer.field-0-is) ∙ c.in-Ok-Answer.ensures) e) held)
+pub returns-in-Ok-Run-clause-complete : goal.returns-in-Ok-Run-clause-complete
+returns-in-Ok-Run-clause-complete g c =
+    completes_as _ (run_form c.in-Ok-Run.asked) (seen_call g.S.Shelf.held g.S.Shelf.left g.S.Shelf.IsBegun g.S.Shelf.names g.S.Shelf.IsSure g.S.Shelf.faults g.K.Sink.taken g.K.Sink.faults c.args.shelf.now c.answer_run.new.shelf c.args.sink.now c.answer_run.new.sink) c.status.result (ended_as c.answer_run.result) (subst (λ (x : Task). AsksFor x (run_asks (map string_bytes c.args.words.now))) c.in-Ok-Run.field-0-is c.in-Ok-Run.ensures) c.status.ensures
+    (run_completes (seen_call g.S.Shelf.held g.S.Shelf.left g.S.Shelf.IsBegun g.S.Shelf.names g.S.Shelf.IsSure g.S.Shelf.faults g.K.Sink.taken g.K.Sink.faults c.args.shelf.now c.answer_run.new.shelf c.args.sink.now c.answer_run.new.sink) c.in-Ok-Run.asked.graph.now c.in-Ok-Run.asked.fleet.now c.in-Ok-Run.asked.stream.now (record { rates = c.in-Ok-Run.asked.params; window = None; proof = false }) (ended_as c.answer_run.result)
+    c.answer_run.ensures.ends c.answer_run.ensures.behaves)
 
-pub returns-in-Err-answer-clause-surely : goal.returns-in-Err-answer-clause-surely
-returns-in-Err-answer-clause-surely g c = λ a e sure held fault. c.in-Err-answer.ensures.surely sure (subst (λ (x : Answering). AreHeld x (g.S.Shelf.held c.args.shelf.now)) (same_run (asking c.in-Ok-Answer.asked) a _ (sym (ap asked_task c.in-Ok-Answer.field-0-is) ∙ c.in-Ok-Answer.ensures) e) held)
-    (ap Err (is_read_fault c.in-Err-answer.ending (sym c.status.ensures ∙ fault)))
+pub returns-in-Ok-Walk-clause-complete : goal.returns-in-Ok-Walk-clause-complete
+returns-in-Ok-Walk-clause-complete g c =
+    completes_as _ (Walk c.in-Ok-Walk.graph.now c.in-Ok-Walk.from c.in-Ok-Walk.to) (seen_call g.S.Shelf.held g.S.Shelf.left g.S.Shelf.IsBegun g.S.Shelf.names g.S.Shelf.IsSure g.S.Shelf.faults g.K.Sink.taken g.K.Sink.faults c.args.shelf.now c.print_walk.new.shelf c.args.sink.now c.print_walk.new.sink) c.status-in-Ok-Walk.result (ended_as c.print_walk.result) (subst (λ (x : Task). AsksFor x (run_asks (map string_bytes c.args.words.now))) c.in-Ok-Walk.field-0-is c.in-Ok-Walk.ensures) c.status-in-Ok-Walk.ensures
+    (walk_completes (seen_call g.S.Shelf.held g.S.Shelf.left g.S.Shelf.IsBegun g.S.Shelf.names g.S.Shelf.IsSure g.S.Shelf.faults g.K.Sink.taken g.K.Sink.faults c.args.shelf.now c.print_walk.new.shelf c.args.sink.now c.print_walk.new.sink) c.in-Ok-Walk.graph.now c.in-Ok-Walk.from c.in-Ok-Walk.to (ended_as c.print_walk.result) c.print_walk.ensures.ends c.print_walk.ensures.behaves)
 
-pub returns-in-Err-answer-clause-silent : goal.returns-in-Err-answer-clause-silent
-returns-in-Err-answer-clause-silent g c = λ a e sure held. c.in-Err-answer.ensures.silent sure (subst (λ (x : Answering). AreHeld x (g.S.Shelf.held c.args.shelf.now)) (same_run (asking c.in-Ok-Answer.asked) a _ (sym (ap asked_task c.in-Ok-Answer.field-0-is) ∙ c.in-Ok-Answer.ensures) e) held)
+pub returns-in-Ok-Later-clause-complete : goal.returns-in-Ok-Later-clause-complete
+returns-in-Ok-Later-clause-complete g c = complete_later (run_asks (map string_bytes c.args.words.now)) (seen_call g.S.Shelf.held g.S.Shelf.left g.S.Shelf.IsBegun g.S.Shelf.names g.S.Shelf.IsSure g.S.Shelf.faults g.K.Sink.taken g.K.Sink.faults c.args.shelf.now c.args.shelf.now c.args.sink.now c.args.sink.now) (subst (λ (x : Task). AsksFor x (run_asks (map string_bytes c.args.words.now))) c.in-Ok-Later.field-0-is c.in-Ok-Later.ensures)
 
-pub returns-in-Err-answer-clause-complete : goal.returns-in-Err-answer-clause-complete
-returns-in-Err-answer-clause-complete g c = λ a e good unread unwritten.
-    rw c.status.ensures (completes _ (asking c.in-Ok-Answer.asked) _ _ _ _ _ _ _ c.in-Err-answer.ensures.ends (subst (λ (x : Answering). AreGood (g.S.Shelf.held c.args.shelf.now) x) (same_run (asking c.in-Ok-Answer.asked) a _ (sym (ap asked_task c.in-Ok-Answer.field-0-is) ∙ c.in-Ok-Answer.ensures) e) good)
-    (λ f. unread (c.in-Err-answer.ensures.read (ap Err (is_read_fault c.in-Err-answer.ending f)))) (λ f. unwritten (c.in-Err-answer.ensures.written (ap Err (is_write_fault c.in-Err-answer.ending f)))))
+pub returns-in-Err-clause-ends : goal.returns-in-Err-clause-ends
+returns-in-Err-clause-ends g c = ends_unread (seen_call g.S.Shelf.held g.S.Shelf.left g.S.Shelf.IsBegun g.S.Shelf.names g.S.Shelf.IsSure g.S.Shelf.faults g.K.Sink.taken g.K.Sink.faults c.args.shelf.now c.args.shelf.now c.args.sink.now c.args.sink.now) refl refl (run_asks (map string_bytes c.args.words.now))

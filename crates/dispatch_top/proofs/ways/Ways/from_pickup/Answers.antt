@@ -1,4 +1,4 @@
-use Rattle.dispatch_top.proofs.Reaches.{distance_from}
+use Rattle.dispatch_top.proofs.IsWholeReach.{distance_from}
 use Rattle.dispatch_top.proofs.ways.Ways.from_pickup.Goals as goal
 
 pub returns : goal.returns

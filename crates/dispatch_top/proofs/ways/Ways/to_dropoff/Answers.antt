@@ -1,4 +1,4 @@
-use Rattle.dispatch_top.proofs.Reaches.{distance_to}
+use Rattle.dispatch_top.proofs.IsWholeReach.{distance_to}
 use Rattle.dispatch_top.proofs.ways.Ways.to_dropoff.Goals as goal
 
 pub returns : goal.returns

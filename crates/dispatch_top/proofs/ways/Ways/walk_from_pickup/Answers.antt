@@ -1,4 +1,4 @@
-use Rattle.dispatch_top.proofs.Reaches.{walk_from}
+use Rattle.dispatch_top.proofs.IsWholeReach.{walk_from}
 use Rattle.dispatch_top.proofs.ways.Ways.walk_from_pickup.Goals as goal
 
 pub returns-clause-walk : goal.returns-clause-walk

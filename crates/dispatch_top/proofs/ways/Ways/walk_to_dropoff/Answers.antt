@@ -1,4 +1,4 @@
-use Rattle.dispatch_top.proofs.Reaches.{walk_to}
+use Rattle.dispatch_top.proofs.IsWholeReach.{walk_to}
 use Rattle.dispatch_top.proofs.ways.Ways.walk_to_dropoff.Goals as goal
 
 pub returns-clause-walk : goal.returns-clause-walk

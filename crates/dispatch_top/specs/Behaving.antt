@@ -1,0 +1,53 @@
+use Rattle.std.specs.Prelude.{◌≡◌, ◌⊎◌, ℕ, true, List, [], Option, Some, None}
+use Rattle.command_words.specs.Commands.{Word, Form, Run, Audit, Walk, Gen, Live}
+use Rattle.ride_base.specs.Outside.{Held}
+use Rattle.road_graph.specs.Roads.{Roads}
+use Rattle.dispatch_top.specs.declared.status.Status.{Status}
+use Rattle.dispatch_top.specs.declared.status.Status.TheVariants.{Done, ReadFault, WriteFault, NoMemory}
+use Rattle.dispatch_top.specs.Calls.{Call, Tells, AreHeld, BeganFirst, Stays, ShelfFailed, SinkFailed}
+use Rattle.dispatch_top.specs.Forms.{is_answered, names_of, stages_of}
+use Rattle.dispatch_top.specs.Reading.{Read, AreRead}
+use Rattle.dispatch_top.specs.Streams.{AtEnd, rides_of}
+
+-- Whom an answer is due, and what holds of a run whatever its status.
+
+-- the text behind those that are read whole goes to its end
+abbrev pub HasGoodLast : (List ℕ → Held) → Roads → Form → Type 0
+HasGoodLast held roads (Run graph fleet stream options) = Tells held stream (λ text. (rides_of roads.nodes text).ends ≡ AtEnd)
+HasGoodLast held roads (Audit graph fleet journal rates) = Unit {0}
+HasGoodLast held roads (Walk graph from to) = Unit {0}
+HasGoodLast held roads (Gen number) = Unit {0}
+HasGoodLast held roads (Live graph fleet stream rates workers) = Unit {0}
+
+-- the texts of a form are told and good
+pub record AreGood (held : List ℕ → Held) (form : Form) : Type 0 where
+  pub read : Read
+  pub are_read : AreRead (Tells held) read (stages_of form)
+  pub last : HasGoodLast held read.roads form
+
+-- where the texts of a form that is answered are good, and neither the shelf nor the sink failed, all is answered, or memory was wanted
+abbrev pub IsComplete : Option Form → Status → Call → Type 0
+IsComplete None status c = Unit {0}
+IsComplete (Some form) status c = is_answered form ≡ true → AreGood c.shelf.held form → (ShelfFailed c → ⊥) → (SinkFailed c → ⊥) → (status ≡ Done) ⊎ (status ≡ NoMemory)
+
+abbrev pub names_in : Option Form → List Word
+names_in None = []
+names_in (Some form) = names_of form
+
+-- each fault comes only where its count rose
+abbrev pub HasCause : Status → Call → Type 0
+HasCause ReadFault c = ShelfFailed c
+HasCause WriteFault c = SinkFailed c
+HasCause status c = Unit {0}
+
+-- a shelf that holds the form's names, and is sure, doesn't fail
+pub record IsSilent (status : Status) (c : Call) : Type 0 where
+  pub unread : status ≡ ReadFault → ⊥
+  pub silent : c.shelf'.faults ≡ c.shelf.faults
+
+-- what holds of a run whatever its status
+pub record Behaves (form : Option Form) (status : Status) (c : Call) : Type 0 where
+  pub names : BeganFirst (names_in form) c
+  pub cause : HasCause status c
+  pub silent : c.shelf.IsSure → AreHeld (names_in form) c.shelf.held → IsSilent status c
+  pub stays : Stays c
