@@ -1,10 +1,12 @@
-// Tests of the lower layers: texts, roads, searches, versions of lists, schedules, and prices.
+//! Tests of the lower layers: texts, roads, searches, versions of lists, schedules, leeways, and prices.
 #![tactic(auto)]
 
 #[cfg(test)]
 mod cities;
 #[cfg(test)]
 mod graphs;
+#[cfg(test)]
+mod leeways;
 #[cfg(test)]
 mod plans;
 #[cfg(test)]

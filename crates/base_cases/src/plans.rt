@@ -1,5 +1,6 @@
-ghost use Rattle.std.specs.Prelude.{◌≡◌, ℕ, ◌<◌, ◌≤◌, ◌^◌, [], length, IfOk, slice_get, Some};
-ghost use Rattle.road_graph.specs.Paths.{Path, length_of};
+ghost use Rattle.std.specs.Prelude.{◌≡◌, ◌≤◌, [], length, IfOk};
+ghost use Rattle.stop_schedule.specs.Bounds.{AreShortLegs};
+ghost use Rattle.stop_schedule.specs.Limits.{latest_moment, most_riders};
 
 use crate::cities::{FOUR, ONE, THREE, TWO, walk};
 use ride_base::{RequestNo, VehicleNo};
@@ -9,9 +10,9 @@ use std::test::Fail;
 use std::thread::Threads;
 use stop_schedule::{Front, Insertion, NewWalks, Promise, Request, Schedule, Vehicle};
 
-/// A vehicle at node 1 with no stop yet.
+/// A vehicle at node 1 with no stop yet, and with one wheelchair space.
 pub fn opened(alloc: Global, seats: u32, from: u64) -> Schedule
-    requires { from ≤ 2 ^ 40 }
+    requires { from ≤ latest_moment }
     ensures { result.stops ≡ [] }
 {
     let vehicle = Vehicle {
@@ -20,6 +21,7 @@ pub fn opened(alloc: Global, seats: u32, from: u64) -> Schedule
         seats,
         from,
         until: 1000,
+        spaces: 1,
     };
     Schedule::opening(alloc, &vehicle)
 }
@@ -28,6 +30,7 @@ pub fn opened(alloc: Global, seats: u32, from: u64) -> Schedule
 pub fn ride(number: u64, pickup: NodeNo, dropoff: NodeNo, moment: u64) -> Request
     ensures moment { result.moment ≡ moment }
     ensures riders { result.riders ≡ 1 }
+    ensures spaces { result.spaces ≡ 0 }
 {
     Request {
         no: RequestNo(number),
@@ -35,11 +38,29 @@ pub fn ride(number: u64, pickup: NodeNo, dropoff: NodeNo, moment: u64) -> Reques
         dropoff,
         moment,
         riders: 1,
+        spaces: 0,
+    }
+}
+
+/// A ride of so many riders in wheelchair spaces.
+pub fn ride_in_spaces(number: u64, pickup: NodeNo, dropoff: NodeNo, spaces: u32) -> Request
+    ensures moment { result.moment ≡ 0 }
+    ensures riders { result.riders ≡ 0 }
+    ensures spaces { result.spaces ≡ spaces }
+{
+    Request {
+        no: RequestNo(number),
+        pickup,
+        dropoff,
+        moment: 0,
+        riders: 0,
+        spaces,
     }
 }
 
 pub fn front(node: NodeNo, time: u64, offset: u64) -> Front
-    ensures { result.time ≡ time }
+    ensures time { result.time ≡ time }
+    ensures offset { result.offset ≡ offset }
 {
     Front { node, time, offset }
 }
@@ -53,7 +74,7 @@ pub fn at(i: usize, j: usize) -> Insertion
 /// The walks of the first request: from node 1 to 2, and from there by 3 to 4.
 pub fn first_walks<R: Threads>(rt: &R, alloc: Global) -> Result<NewWalks, Fail>
     ensures two { IfOk result (λ l. length l ≡ 2) }
-    ensures short { IfOk result (λ l. (k : ℕ) (w : Path) → slice_get l k ≡ Some w → length_of w < 2 ^ 53) }
+    ensures short { IfOk result AreShortLegs }
 {
     let mut walks = NewWalks::new(alloc);
     walks.push(walk(rt, alloc, &[ONE, TWO])?);
@@ -72,24 +93,25 @@ pub fn promised() -> Promise
     }
 }
 
-/// The schedule with no stop yet that takes the first request over these walks.
-fn with_first(
+/// The schedule with no stop yet that takes a request over these walks.
+fn with_ride(
     alloc: Global,
     opened: &Schedule,
-    moment: u64,
+    request: &Request,
     walks: &NewWalks,
 ) -> Result<Schedule, Fail>
     requires none { opened.now.stops ≡ [] }
-    requires moment { moment ≤ 2 ^ 40 }
+    requires moment { request.now.moment ≤ latest_moment }
+    requires riders { request.now.riders ≤ most_riders }
+    requires spaces { request.now.spaces ≤ most_riders }
     requires two { length walks.now ≡ 2 }
-    requires short { (k : ℕ) (w : Path) → slice_get walks.now k ≡ Some w → length_of w < 2 ^ 53 }
+    requires short { AreShortLegs walks.now }
     ensures { IfOk result (λ s. length s.stops ≡ 2) }
 {
-    let request = ride(1, TWO, FOUR, moment);
     Ok(opened.inserted(
         alloc,
         &front(ONE, 0, 0),
-        &request,
+        request,
         at(0, 0),
         &promised(),
         walks,
@@ -98,9 +120,19 @@ fn with_first(
 
 /// The schedule of a vehicle that takes a first request from node 2 to 4.
 pub fn first<R: Threads>(rt: &R, alloc: Global, seats: u32, moment: u64) -> Result<Schedule, Fail>
-    requires { moment ≤ 2 ^ 40 }
+    requires { moment ≤ latest_moment }
     ensures { IfOk result (λ s. length s.stops ≡ 2) }
 {
     let walks = first_walks(rt, alloc)?;
-    with_first(alloc, &opened(alloc, seats, 0), moment, &walks)
+    let request = ride(1, TWO, FOUR, moment);
+    with_ride(alloc, &opened(alloc, seats, 0), &request, &walks)
+}
+
+/// The same of a first rider in a wheelchair space.
+pub fn first_in_a_space<R: Threads>(rt: &R, alloc: Global, seats: u32) -> Result<Schedule, Fail>
+    ensures { IfOk result (λ s. length s.stops ≡ 2) }
+{
+    let walks = first_walks(rt, alloc)?;
+    let request = ride_in_spaces(1, TWO, FOUR, 1);
+    with_ride(alloc, &opened(alloc, seats, 0), &request, &walks)
 }

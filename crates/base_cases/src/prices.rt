@@ -1,9 +1,14 @@
 ghost use Rattle.std.specs.Prelude.{◌≡◌, ◌<◌, ◌≤◌, ◌^◌, [], length, Some, None};
 ghost use Rattle.insertion_cost.specs.Spans.{AreSpans};
+ghost use Rattle.stop_schedule.specs.Limits.{latest_front, latest_moment};
 
 use crate::cities::{FOUR, ONE, THREE, TWO};
-use crate::plans::{at, first, first_walks, front, opened, promised, ride};
-use insertion_cost::{Assigned, Decision, Offer, Priced, Spans, is_before, price, promise, sooner};
+use crate::plans::{
+    at, first, first_in_a_space, first_walks, front, opened, promised, ride, ride_in_spaces,
+};
+use insertion_cost::{
+    Assigned, Decision, Offer, Priced, Spans, first_of_two, is_before, price, promise,
+};
 use ride_base::{NoMemory, VehicleNo};
 use std::alloc::Global;
 use std::process::Abort;
@@ -63,8 +68,9 @@ fn first_price(
     spans: &Spans,
 ) -> Option<Priced>
     requires none { schedule.now.stops ≡ [] }
-    requires front { front.now.time ≤ 2 ^ 41 }
-    requires moment { request.now.moment ≤ 2 ^ 40 }
+    requires front { front.now.time ≤ latest_front }
+    requires offset { front.now.offset < 2 ^ 53 }
+    requires moment { request.now.moment ≤ latest_moment }
     requires direct { direct < 2 ^ 53 }
     requires spans { AreSpans 0 (record { i = 0; j = 0 }) spans.now }
 {
@@ -79,23 +85,29 @@ fn first_price(
     )
 }
 
-/// The price of a second request, from node 3 to 4 at the time 0, with the vehicle's front at node 1.
-fn second_price(schedule: &Schedule, spans: &Spans, at: Insertion) -> Option<Priced>
+/// The price of a second request, with a direct way of 10, while the vehicle's front is at node 1 at the time 0.
+fn price_of(schedule: &Schedule, request: &Request, spans: &Spans, at: Insertion) -> Option<Priced>
     requires two { length schedule.now.stops ≡ 2 }
-    requires order { at.i ≤ at.j }
-    requires within { at.j ≤ 2 }
+    requires moment { request.now.moment ≤ latest_moment }
     requires spans { AreSpans 2 at spans.now }
 {
-    let request = ride(2, THREE, FOUR, 0);
     price(
         schedule,
         &front(ONE, 0, 0),
         &Params::usual(),
-        &request,
+        request,
         10,
         spans,
         at,
     )
+}
+
+/// The price of a second request of one rider, from node 3 to 4 at the time 0.
+fn second_price(schedule: &Schedule, spans: &Spans, at: Insertion) -> Option<Priced>
+    requires two { length schedule.now.stops ≡ 2 }
+    requires spans { AreSpans 2 at spans.now }
+{
+    price_of(schedule, &ride(2, THREE, FOUR, 0), spans, at)
 }
 
 #[test]
@@ -129,7 +141,7 @@ fn to_the_pickups_own_node(rt: HostRuntime) {
         0,
         &at_the_end(10, 0),
     );
-    assert_eq!(rt; price, priced(16, 12, 12));
+    assert_eq!(rt; price, priced(14, 12, 12));
 }
 
 #[test]
@@ -150,9 +162,9 @@ fn check_older(rt: &impl Abort, schedule: &Schedule)
     requires { length schedule.now.stops ≡ 2 }
 {
     let between = second_price(schedule, &before_another(10, 10, 0), at(1, 1));
-    assert_eq!(rt; between, priced(12, 24, 34));
+    assert_eq!(rt; between, priced(10, 24, 34));
     let after_older = second_price(schedule, &around_others(10, 10, 0), at(1, 2));
-    assert_eq!(rt; after_older, priced(14, 24, 36));
+    assert_eq!(rt; after_older, priced(12, 24, 36));
     let behind = second_price(schedule, &at_the_end(10, 10), at(2, 2));
     assert_eq!(rt; behind, priced(76, 46, 56));
 }
@@ -163,27 +175,57 @@ fn between_and_behind_older_stops(rt: HostRuntime) -> Result<(), Fail> {
     Ok(())
 }
 
-/// The price of a request that came at the time 5, while the vehicle was under way to node 2, from there to 1.
-fn price_under_way(schedule: &Schedule) -> Option<Priced>
+/// No pair of places, since the dropoff goes before the pickup, or one of them behind the end.
+fn check_no_pairs(rt: &impl Abort, schedule: &Schedule)
     requires { length schedule.now.stops ≡ 2 }
 {
+    let turned = second_price(schedule, &before_another(10, 10, 0), at(1, 0));
+    assert_eq!(rt; turned, None);
+    let at_last = second_price(schedule, &before_another(10, 10, 0), at(2, 1));
+    assert_eq!(rt; at_last, None);
+    let past_the_end = second_price(schedule, &around_others(10, 10, 0), at(1, 3));
+    assert_eq!(rt; past_the_end, None);
+    let both_past_the_end = second_price(schedule, &at_the_end(10, 10), at(3, 3));
+    assert_eq!(rt; both_past_the_end, None);
+}
+
+#[test]
+fn other_places_have_no_price(rt: HostRuntime) -> Result<(), Fail> {
+    check_no_pairs(&rt, &first(&rt, rt.alloc(), 2, 0)?);
+    Ok(())
+}
+
+/// The price of a request that came at the time 5, while the vehicle was under way to node 2, from there to 1.
+fn price_under_way(schedule: &Schedule, spans: &Spans, at: Insertion) -> Option<Priced>
+    requires two { length schedule.now.stops ≡ 2 }
+    requires spans { AreSpans 2 at spans.now }
+{
     let request = ride(2, TWO, ONE, 5);
-    let spans = around_others(0, 0, 30);
     price(
         schedule,
         &front(TWO, 10, 10),
         &Params::usual(),
         &request,
         10,
-        &spans,
-        at(0, 2),
+        spans,
+        at,
     )
+}
+
+fn check_under_way(rt: &impl Abort, schedule: &Schedule)
+    requires { length schedule.now.stops ≡ 2 }
+{
+    let before_older = price_under_way(schedule, &around_others(0, 0, 30), at(0, 2));
+    assert_eq!(rt; before_older, priced(61, 12, 64));
+    let behind_older = price_under_way(schedule, &around_others(0, 20, 30), at(1, 2));
+    assert_eq!(rt; behind_older, priced(61, 12, 64));
+    let at_last = price_under_way(schedule, &at_the_end(20, 10), at(2, 2));
+    assert_eq!(rt; at_last, priced(96, 56, 66));
 }
 
 #[test]
 fn from_the_front_under_way(rt: HostRuntime) -> Result<(), Fail> {
-    let price = price_under_way(&first(&rt, rt.alloc(), 2, 0)?);
-    assert_eq!(rt; price, priced(65, 12, 66));
+    check_under_way(&rt, &first(&rt, rt.alloc(), 2, 0)?);
     Ok(())
 }
 
@@ -200,6 +242,31 @@ fn too_many_riders_have_no_price(rt: HostRuntime) -> Result<(), Fail> {
     let schedule = first(&rt, rt.alloc(), 1, 0)?;
     let price = second_price(&schedule, &before_another(10, 10, 0), at(1, 1));
     assert_eq!(rt; price, None);
+    Ok(())
+}
+
+/// The price of a second request of so many riders in wheelchair spaces, between the two older stops.
+fn price_in_spaces(schedule: &Schedule, spaces: u32) -> Option<Priced>
+    requires { length schedule.now.stops ≡ 2 }
+{
+    let request = ride_in_spaces(2, THREE, FOUR, spaces);
+    price_of(schedule, &request, &before_another(10, 10, 0), at(1, 1))
+}
+
+#[test]
+fn seats_are_no_spaces(rt: HostRuntime) -> Result<(), Fail> {
+    let on_seats = first(&rt, rt.alloc(), 1, 0)?;
+    assert_eq!(rt; price_in_spaces(&on_seats, 1), priced(10, 24, 34));
+    assert_eq!(rt; price_in_spaces(&on_seats, 2), None);
+    Ok(())
+}
+
+#[test]
+fn spaces_are_no_seats(rt: HostRuntime) -> Result<(), Fail> {
+    let in_space = first_in_a_space(&rt, rt.alloc(), 1)?;
+    let on_a_seat = second_price(&in_space, &before_another(10, 10, 0), at(1, 1));
+    assert_eq!(rt; on_a_seat, priced(10, 24, 34));
+    assert_eq!(rt; price_in_spaces(&in_space, 1), None);
     Ok(())
 }
 
@@ -224,13 +291,13 @@ fn offers_are_in_order(rt: HostRuntime) {
 }
 
 #[test]
-fn the_sooner_offer_is_taken(rt: HostRuntime) {
+fn the_first_of_two_offers_is_taken(rt: HostRuntime) {
     let (first, second) = (offer(34, 1, 5, 5), offer(34, 2, 0, 0));
-    assert_eq!(rt; sooner(Some(second), Some(first)), Some(first));
-    assert_eq!(rt; sooner(Some(first), Some(second)), Some(first));
-    assert_eq!(rt; sooner(None, Some(second)), Some(second));
-    assert_eq!(rt; sooner(Some(second), None), Some(second));
-    assert_eq!(rt; sooner(None, None), None);
+    assert_eq!(rt; first_of_two(Some(second), Some(first)), Some(first));
+    assert_eq!(rt; first_of_two(Some(first), Some(second)), Some(first));
+    assert_eq!(rt; first_of_two(None, Some(second)), Some(second));
+    assert_eq!(rt; first_of_two(Some(second), None), Some(second));
+    assert_eq!(rt; first_of_two(None, None), None);
 }
 
 fn is_shared(alloc: Global, decision: &Decision) -> Result<bool, NoMemory> {

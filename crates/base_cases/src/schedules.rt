@@ -1,8 +1,9 @@
-ghost use Rattle.std.specs.Prelude.{◌≡◌, ℕ, ◌<◌, ◌≤◌, ◌^◌, length, slice_get, IfOk, Some, IsTrue};
-ghost use Rattle.road_graph.specs.Paths.{Path, length_of};
+ghost use Rattle.std.specs.Prelude.{◌≡◌, ◌<◌, ◌≤◌, ◌^◌, [], length, IfOk, IsTrue};
+ghost use Rattle.stop_schedule.specs.Bounds.{AreShortLegs};
+ghost use Rattle.stop_schedule.specs.Limits.{latest_front, latest_moment};
 
 use crate::cities::{FOUR, ONE, THREE, TWO, walk};
-use crate::plans::{at, first, front, promised, ride};
+use crate::plans::{at, first, first_in_a_space, front, opened, promised, ride};
 use ride_base::NoMemory;
 use road_graph::{NodeNo, Walk};
 use std::alloc::Global;
@@ -11,7 +12,7 @@ use std::test::Fail;
 use std::thread::Threads;
 use stop_schedule::{Insertion, NewWalks, Params, Schedule};
 
-/// Whether the stops are at these nodes, are reached at these times, and so many are aboard on the legs to them.
+/// Whether the stops are at these nodes, are reached at these times, and so many are aboard on seats on the legs to them.
 fn runs(schedule: &Schedule, nodes: &[NodeNo], times: &[u64], riders: &[u32]) -> bool {
     let stops = schedule.stops();
     let count = stops.len();
@@ -30,9 +31,28 @@ fn runs(schedule: &Schedule, nodes: &[NodeNo], times: &[u64], riders: &[u32]) ->
     true
 }
 
+/// Whether so many are aboard in wheelchair spaces on the legs to the stops.
+fn carries(schedule: &Schedule, spaces: &[u32]) -> bool {
+    let count = schedule.stops().len();
+    if spaces.len() != count {
+        return false;
+    }
+    for k in 0..count {
+        if schedule.aboard_spaces(k) != spaces[k] {
+            return false;
+        }
+    }
+    true
+}
+
+/// Whether the last stop is left at this time.
+fn ends(schedule: &Schedule, time: u64) -> bool {
+    schedule.dep(&Params::usual(), schedule.stops().len()) == time
+}
+
 /// Whether each walk is short enough for a schedule.
 fn are_short(walks: &[Walk]) -> bool
-    ensures { IsTrue result → (k : ℕ) (w : Path) → slice_get walks.now k ≡ Some w → length_of w < 2 ^ 53 }
+    ensures { IsTrue result → AreShortLegs walks.now }
 {
     for walk in walks {
         if walk.length() >= 1 << 53 {
@@ -100,7 +120,7 @@ fn walks_over<R: Threads>(rt: &R, alloc: Global, lists: &[&[NodeNo]]) -> Result<
     Ok(walks)
 }
 
-/// Whether the schedule of both requests, the second put in over these walks, runs so.
+/// Whether the schedule of both requests, the second put in over these walks, runs so and ends at this time.
 fn both_run<R: Threads>(
     rt: &R,
     alloc: Global,
@@ -109,26 +129,42 @@ fn both_run<R: Threads>(
     nodes: &[NodeNo],
     times: &[u64],
     riders: &[u32],
+    end: u64,
 ) -> Result<bool, Fail>
     requires order { at.i ≤ at.j }
     requires within { at.j ≤ 2 }
 {
     let walks = walks_over(rt, alloc, lists)?;
     let schedule = second(rt, alloc, at, &walks)?;
-    Ok(runs(&schedule, nodes, times, riders))
+    Ok(runs(&schedule, nodes, times, riders) && ends(&schedule, end))
 }
 
 fn check_first(rt: &impl Abort, schedule: &Schedule) {
     assert!(rt; runs(schedule, &[TWO, FOUR], &[10, 32], &[0, 1]));
+    assert!(rt; carries(schedule, &[0, 0]));
+    assert!(rt; ends(schedule, 34));
     assert_eq!(rt; schedule.dep(&Params::usual(), 0), 0);
     assert_eq!(rt; schedule.seats(), 2);
     assert_eq!(rt; schedule.until(), 1000);
+    assert_eq!(rt; schedule.spaces(), 1);
     assert_eq!(rt; schedule.place(), ONE);
+    assert!(rt; !schedule.halt());
 }
 
 #[test]
 fn a_ride_is_put_in(rt: HostRuntime) -> Result<(), Fail> {
     check_first(&rt, &first(&rt, rt.alloc(), 2, 0)?);
+    Ok(())
+}
+
+fn check_in_a_space(rt: &impl Abort, schedule: &Schedule) {
+    assert!(rt; runs(schedule, &[TWO, FOUR], &[10, 32], &[0, 0]));
+    assert!(rt; carries(schedule, &[0, 1]));
+}
+
+#[test]
+fn a_ride_in_a_space_is_put_in(rt: HostRuntime) -> Result<(), Fail> {
+    check_in_a_space(&rt, &first_in_a_space(&rt, rt.alloc(), 2)?);
     Ok(())
 }
 
@@ -157,7 +193,7 @@ fn is_first<R: Threads>(
     schedule: &Schedule,
     moment: u64,
 ) -> Result<bool, Fail>
-    requires { moment ≤ 2 ^ 40 }
+    requires { moment ≤ latest_moment }
 {
     Ok(first(rt, alloc, 2, moment)? == *schedule)
 }
@@ -183,7 +219,8 @@ fn both_between_two_stops(rt: HostRuntime) -> Result<(), Fail> {
             &walks,
             &nodes,
             &times,
-            &[0, 1, 2, 1]
+            &[0, 1, 2, 1],
+            36
         )?
     );
     Ok(())
@@ -202,7 +239,8 @@ fn both_behind_the_last_stop(rt: HostRuntime) -> Result<(), Fail> {
             &walks,
             &nodes,
             &times,
-            &[0, 1, 0, 1]
+            &[0, 1, 0, 1],
+            58
         )?
     );
     Ok(())
@@ -226,7 +264,8 @@ fn around_the_first_stop(rt: HostRuntime) -> Result<(), Fail> {
             &walks,
             &nodes,
             &times,
-            &[0, 1, 2, 1]
+            &[0, 1, 2, 1],
+            56
         )?
     );
     Ok(())
@@ -245,10 +284,79 @@ fn around_both_stops(rt: HostRuntime) -> Result<(), Fail> {
             &walks,
             &nodes,
             &times,
-            &[0, 1, 2, 1]
+            &[0, 1, 2, 1],
+            56
         )?
     );
     Ok(())
+}
+
+/// The schedule of a vehicle that halts at node 4, from which it leaves at 34.
+fn halting(alloc: Global, like: &Schedule) -> Result<Schedule, NoMemory>
+    ensures { IfOk result (λ s. s.stops ≡ []) }
+{
+    Schedule::from_parts(alloc, like, FOUR, 34, true, &[], &[])
+}
+
+/// The walks to a rider at node 4 and on to node 3.
+fn walks_on<R: Threads>(rt: &R, alloc: Global) -> Result<NewWalks, Fail>
+    ensures two { IfOk result (λ walks. length walks ≡ 2) }
+    ensures short { IfOk result AreShortLegs }
+{
+    let mut walks = NewWalks::new(alloc);
+    walks.push(walk(rt, alloc, &[FOUR])?);
+    walks.push(walk(rt, alloc, &[FOUR, THREE])?);
+    Ok(walks)
+}
+
+/// When it leaves a rider's pickup at node 4, where it can turn to it at this time; none at want of memory.
+fn leaves_again(alloc: Global, schedule: &Schedule, walks: &NewWalks, time: u64) -> Option<u64>
+    requires none { schedule.now.stops ≡ [] }
+    requires two { length walks.now ≡ 2 }
+    requires short { AreShortLegs walks.now }
+    requires time { time ≤ latest_front }
+{
+    let request = ride(3, FOUR, THREE, 0);
+    let with_ride = schedule.inserted(
+        alloc,
+        &front(FOUR, time, 0),
+        &request,
+        at(0, 0),
+        &promised(),
+        walks,
+    );
+    left_first(&with_ride.ok()?)
+}
+
+/// When the first stop is left, where there is one.
+fn left_first(schedule: &Schedule) -> Option<u64> {
+    if schedule.stops().is_empty() {
+        return None;
+    }
+    Some(schedule.dep(&Params::usual(), 1))
+}
+
+fn check_left(rt: &impl Abort, alloc: Global, schedule: &Schedule, walks: &NewWalks)
+    requires none { schedule.now.stops ≡ [] }
+    requires two { length walks.now ≡ 2 }
+    requires short { AreShortLegs walks.now }
+{
+    assert_eq!(rt; leaves_again(alloc, schedule, walks, 34), Some(34));
+    assert_eq!(rt; leaves_again(alloc, schedule, walks, 40), Some(42));
+}
+
+fn check_halt(rt: &impl Abort, alloc: Global, walks: &NewWalks) -> Result<(), Fail>
+    requires two { length walks.now ≡ 2 }
+    requires short { AreShortLegs walks.now }
+{
+    let schedule = halting(alloc, &opened(alloc, 2, 0))?;
+    check_left(rt, alloc, &schedule, walks);
+    Ok(())
+}
+
+#[test]
+fn a_stop_where_the_vehicle_halts_takes_no_time(rt: HostRuntime) -> Result<(), Fail> {
+    check_halt(&rt, rt.alloc(), &walks_on(&rt, rt.alloc())?)
 }
 
 /// Whether walks are so long, and equal walks are equal.

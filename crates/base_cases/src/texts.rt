@@ -5,9 +5,10 @@ use ride_base::{
     MemorySink, NoMemory, Shelf, Sink, number, whole, write_whole,
 };
 use std::alloc::Global;
-use std::fs;
+use std::fmt::Display;
 use std::process::Abort;
 use std::test::Fail;
+use std::{fs, io};
 
 const TEXT: &[u8] = b"a\r\n\nb";
 
@@ -301,6 +302,45 @@ fn the_standard_output_takes_bytes(rt: HostRuntime) -> Result<(), Fail> {
     assert!(rt; taken >= 1);
     assert_eq!(rt; write_whole(&mut sink, b"taken\n"), Ok(()));
     Ok(())
+}
+
+/// An output that takes at most so many bytes by a write.
+#[derive(Drop)]
+struct Narrow {
+    most: usize,
+}
+
+impl Print for Narrow {
+    fn print<D: Display + Drop>(&self, value: D) -> io::Result<()> {
+        let _ = value;
+        Ok(())
+    }
+
+    fn println<D: Display + Drop>(&self, value: D) -> io::Result<()> {
+        let _ = value;
+        Ok(())
+    }
+
+    fn write_all(&self, bytes: &[u8]) -> io::Result<()> {
+        let _ = bytes;
+        Ok(())
+    }
+
+    fn write_some(&self, bytes: &[u8]) -> io::Result<usize> {
+        Ok(bytes.len().min(self.most))
+    }
+}
+
+#[test]
+fn a_short_write_is_told(rt: HostRuntime) {
+    let narrow = Narrow { most: 2 };
+    assert_eq!(rt; HostSink::new(&narrow).put(b"abc"), Ok(2));
+}
+
+#[test]
+fn a_write_of_no_byte_fails(rt: HostRuntime) {
+    let closed = Narrow { most: 0 };
+    assert_eq!(rt; HostSink::new(&closed).put(b"abc"), Err(Failed));
 }
 
 fn is_copied(alloc: Global, items: &Items<u32>) -> Result<bool, NoMemory> {

@@ -3,7 +3,7 @@ ghost use Rattle.journal_text.specs.Printable.{IsPrintable};
 
 #[cfg(test)]
 mod tests {
-    use board_core::{Advanced, Entry, Reason, Submitted};
+    use board_core::{Advanced, CancelReason, Cancelled, Entry, Reason, Submitted};
     use insertion_cost::{Assigned, Decision, Offer};
     use journal_text::render;
     use ride_base::{Items, RequestNo, VehicleNo};
@@ -13,21 +13,23 @@ mod tests {
     use std::test::Fail;
     use std::thread::Threads;
     use stop_advance::Served;
+    use stop_removal::{Joins, Removal};
     use stop_schedule::{Insertion, NewWalks, Request, StopKind};
 
-    /// A request of one rider from node 2 to node 4.
-    fn request() -> Request {
+    /// A request of so many riders on seats and in wheelchair spaces from node 2 to node 4.
+    fn request(riders: u32, spaces: u32) -> Request {
         Request {
             no: RequestNo(1),
             pickup: NodeNo(2),
             dropoff: NodeNo(4),
             moment: 0,
-            riders: 1,
+            riders,
+            spaces,
         }
     }
 
-    /// The request is answered by vehicle 1, which has no other stops.
-    fn answer(walks: NewWalks) -> Entry
+    /// The request is answered by vehicle 1, which has no other stops, over these two walks.
+    fn answer(alloc: Global, first: Walk, second: Walk) -> Entry
         ensures { IsPrintable result }
     {
         let offer = Offer {
@@ -38,6 +40,9 @@ mod tests {
             leave: 12,
             arrive: 32,
         };
+        let mut walks = NewWalks::new(alloc);
+        walks.push(first);
+        walks.push(second);
         Entry::Commit(RequestNo(1), Decision::Assigned(Assigned { offer, walks }))
     }
 
@@ -80,27 +85,17 @@ mod tests {
     }
 
     #[test]
-    fn an_answered_request_is_printed(rt: HostRuntime) -> Result<(), Fail> {
-        let alloc = rt.alloc();
-        let mut text = Vec::new(alloc);
-        print(
-            alloc,
-            Entry::Submit(request(), Submitted::Accepted),
-            &mut text,
-        )?;
-        let mut walks = NewWalks::new(alloc);
-        walks.push(walk(&rt, alloc, &[NodeNo(1), NodeNo(2)])?);
-        walks.push(walk(&rt, alloc, &[NodeNo(2), NodeNo(3), NodeNo(4)])?);
-        print(alloc, answer(walks), &mut text)?;
-        let expected = "r 1 2 4 0 1\na 1 1 0 0 34 12 32\ng 0 1 2\ng 1 2 3 4\n";
-        assert_eq!(rt; text.as_slice(), expected.as_bytes());
-        Ok(())
+    fn an_answer_is_printed(rt: HostRuntime) -> Result<(), Fail> {
+        let first = walk(&rt, rt.alloc(), &[NodeNo(1), NodeNo(2)])?;
+        let second = walk(&rt, rt.alloc(), &[NodeNo(2), NodeNo(3), NodeNo(4)])?;
+        let expected = "a 1 1 0 0 34 12 32\ng 0 1 2\ng 1 2 3 4\n";
+        check(&rt, rt.alloc(), answer(rt.alloc(), first, second), expected)
     }
 
     #[test]
     fn each_kind_of_entry_is_printed(rt: HostRuntime) -> Result<(), Fail> {
         let alloc = rt.alloc();
-        let refused = Entry::Submit(request(), Submitted::Refused(Reason::Repeated));
+        let refused = Entry::Submit(request(1, 0), Submitted::Refused(Reason::Repeated));
         check(&rt, alloc, refused, "r 1 2 4 0 1\nx 1 repeated\n")?;
         check(&rt, alloc, Entry::Claim(RequestNo(7), 2), "k 7 2\n")?;
         check(&rt, alloc, Entry::Back(RequestNo(7)), "b 7\n")?;
@@ -126,7 +121,82 @@ mod tests {
         check(&rt, alloc, moved, "t 32\ns 1 1 d 4 32 34\n")
     }
 
-    /// The text of the answer with one walk, along the whole road.
+    /// The submit of such a request.
+    fn accepted(riders: u32, spaces: u32) -> Entry
+        ensures { IsPrintable result }
+    {
+        Entry::Submit(request(riders, spaces), Submitted::Accepted)
+    }
+
+    #[test]
+    fn riders_in_spaces_are_printed_behind_those_on_seats(rt: HostRuntime) -> Result<(), Fail> {
+        check(&rt, rt.alloc(), accepted(0, 2), "r 1 2 4 0 0 2\n")?;
+        check(&rt, rt.alloc(), accepted(1, 1), "r 1 2 4 0 1 1\n")?;
+        check(&rt, rt.alloc(), accepted(1, 0), "r 1 2 4 0 1\n")
+    }
+
+    /// A cancellation that is refused.
+    fn declined(reason: CancelReason) -> Entry
+        ensures { IsPrintable result }
+    {
+        Entry::Cancel(RequestNo(1), Cancelled::Refused(reason))
+    }
+
+    #[test]
+    fn refused_cancellations_are_printed(rt: HostRuntime) -> Result<(), Fail> {
+        let unknown = declined(CancelReason::Unknown);
+        check(&rt, rt.alloc(), unknown, "y 1\nx 1 unknown\n")?;
+        let waiting = declined(CancelReason::Waiting);
+        check(&rt, rt.alloc(), waiting, "y 1\nx 1 waiting\n")?;
+        let nobody = declined(CancelReason::Nobody);
+        check(&rt, rt.alloc(), nobody, "y 1\nx 1 nobody\n")?;
+        let cancelled = declined(CancelReason::Cancelled);
+        check(&rt, rt.alloc(), cancelled, "y 1\nx 1 cancelled\n")?;
+        let served = declined(CancelReason::Served);
+        check(&rt, rt.alloc(), served, "y 1\nx 1 served\n")
+    }
+
+    /// The first stop and the fourth are taken out, and one walk joins what was around the first.
+    fn removed(alloc: Global, walk: Walk) -> Entry
+        ensures { IsPrintable result }
+    {
+        let mut walks = Joins::new(alloc);
+        walks.push(walk);
+        let removal = Removal {
+            no: VehicleNo(1),
+            pickup: 1,
+            dropoff: 4,
+            walks,
+        };
+        Entry::Cancel(RequestNo(1), Cancelled::Removed(removal))
+    }
+
+    #[test]
+    fn a_removal_is_printed(rt: HostRuntime) -> Result<(), Fail> {
+        let joined = walk(&rt, rt.alloc(), &[NodeNo(1), NodeNo(2), NodeNo(3)])?;
+        let expected = "y 1\no 1 1 1 4\ng 0 1 2 3\n";
+        check(&rt, rt.alloc(), removed(rt.alloc(), joined), expected)
+    }
+
+    /// The stops of request 1 are all that the vehicle has.
+    fn emptied(alloc: Global) -> Entry
+        ensures { IsPrintable result }
+    {
+        let removal = Removal {
+            no: VehicleNo(1),
+            pickup: 1,
+            dropoff: 2,
+            walks: Joins::new(alloc),
+        };
+        Entry::Cancel(RequestNo(1), Cancelled::Removed(removal))
+    }
+
+    #[test]
+    fn a_removal_without_walks_is_printed(rt: HostRuntime) -> Result<(), Fail> {
+        check(&rt, rt.alloc(), emptied(rt.alloc()), "y 1\no 1 1 1 2\n")
+    }
+
+    /// The text of the answer whose first walk goes along the whole road.
     fn long_answer(alloc: Global) -> Result<Vec<u8>, Fail> {
         let mut text = Vec::from_slice(alloc, b"a 1 1 0 0 34 12 32\ng 0")?;
         for node in 1..131u32 {
@@ -135,22 +205,36 @@ mod tests {
             }
             text.extend_from_slice(format!(in alloc; " {node}")?.as_bytes())?;
         }
-        text.push(b'\n')?;
+        text.extend_from_slice(b"\ng 1 130\n")?;
         Ok(text)
     }
 
-    #[test]
-    fn a_long_walk_takes_more_lines(rt: HostRuntime) -> Result<(), Fail> {
-        let alloc = rt.alloc();
+    /// The walk along the whole road.
+    fn long_walk<R: Threads>(rt: &R, alloc: Global) -> Result<Walk, Fail> {
         let mut nodes = [NodeNo(1); 130];
         for (at, node) in nodes.iter_mut().enumerate() {
             *node = NodeNo(at as u32 + 1);
         }
-        let mut walks = NewWalks::new(alloc);
-        walks.push(walk(&rt, alloc, &nodes)?);
-        let mut text = Vec::new(alloc);
-        print(alloc, answer(walks), &mut text)?;
-        assert_eq!(rt; text.as_slice(), long_answer(alloc)?.as_slice());
+        walk(rt, alloc, &nodes)
+    }
+
+    /// Adds the lines of an answer over these walks to a text.
+    fn print_answer(
+        alloc: Global,
+        first: Walk,
+        second: Walk,
+        text: &mut Vec<u8>,
+    ) -> Result<(), Fail> {
+        print(alloc, answer(alloc, first, second), text)
+    }
+
+    #[test]
+    fn a_long_walk_takes_more_lines(rt: HostRuntime) -> Result<(), Fail> {
+        let first = long_walk(&rt, rt.alloc())?;
+        let second = walk(&rt, rt.alloc(), &[NodeNo(130)])?;
+        let mut text = Vec::new(rt.alloc());
+        print_answer(rt.alloc(), first, second, &mut text)?;
+        assert_eq!(rt; text.as_slice(), long_answer(rt.alloc())?.as_slice());
         Ok(())
     }
 }

@@ -1,4 +1,4 @@
-// Tests of the board's layers: the lines of a journal.
+//! Tests of the board's layers: the lines of a journal.
 #![tactic(auto)]
 
 #[cfg(test)]

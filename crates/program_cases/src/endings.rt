@@ -1,20 +1,12 @@
 ghost use Rattle.std.specs.Prelude.{◌<◌};
 
-use crate::runs::{FIRST, LINE, ONE, ends, shelf_of, status_of};
+use crate::runs::{BOTH, FIRST, LINE, ONE, TWO, WORDS, ends, shelf_of, status_of};
 use dispatch_top::Status;
 use ride_base::{MemoryShelf, MemorySink};
 use std::alloc::Global;
 use std::process::Abort;
 use std::test::Fail;
 use std::thread::Threads;
-
-const WORDS: &[&str] = &["run", "graph", "fleet", "stream"];
-
-/// Two rides, and the lines of both answers.
-const TWO: &[u8] = b"r 1 2 4 0 1\nr 2 3 4 0 1\n";
-
-const BOTH: &[u8] =
-    b"r 1 2 4 0 1\na 1 1 0 0 34 12 32\ng 0 1 2\ng 1 2 3 4\nr 2 3 4 0 1\na 2 1 1 1 12 24 34\ng 1 2 3\ng 2 3 4\ng 3 4\n";
 
 /// A shelf with the line, one vehicle and two rides, which moves at most so many bytes by a read.
 fn shelf_in_pieces(alloc: Global, most: usize) -> Result<MemoryShelf, Fail>
@@ -224,6 +216,54 @@ fn a_line_may_not_be_answered_yet(rt: HostRuntime) -> Result<(), Fail> {
         rt.alloc(),
         b"r 1 2 4 0 1\nr 2 2 3 0 17\n",
         Status::NotYet,
+    )?;
+    stream_ends(
+        &rt,
+        rt.alloc(),
+        b"r 1 2 4 0 1\nr 2 2 4 0 0 0\n",
+        Status::NotYet,
+    )?;
+    stream_ends(&rt, rt.alloc(), b"r 1 2 4 0 1\ny 1\n", Status::NotYet)
+}
+
+/// A line of so many bytes, behind a first ride.
+fn with_long_line(alloc: Global, bytes: usize) -> Result<Vec<u8>, Fail>
+    requires { bytes < 100000 }
+{
+    let mut stream = Vec::from_slice(alloc, b"r 1 2 4 0 1\n")?;
+    for _ in 0..bytes {
+        stream.push(b'c')?;
+    }
+    Ok(stream)
+}
+
+#[test]
+fn a_line_may_be_too_long(rt: HostRuntime) -> Result<(), Fail> {
+    let stream = with_long_line(rt.alloc(), 65_537)?;
+    stream_ends(
+        &rt,
+        rt.alloc(),
+        stream.as_slice(),
+        Status::StreamText { line: 2 },
+    )
+}
+
+#[test]
+fn the_longest_line_is_read(rt: HostRuntime) -> Result<(), Fail> {
+    let stream = with_long_line(rt.alloc(), 65_536)?;
+    stream_ends(&rt, rt.alloc(), stream.as_slice(), Status::Done)
+}
+
+#[test]
+fn a_first_line_may_be_refused(rt: HostRuntime) -> Result<(), Fail> {
+    let large = b"r 1099511627777 2 4 0 1\n";
+    ends(
+        &rt,
+        rt.alloc(),
+        WORDS,
+        [LINE, ONE, large],
+        Status::StreamText { line: 1 },
+        b"",
     )
 }
 
@@ -238,6 +278,29 @@ fn a_bad_graph_ends_the_run(rt: HostRuntime) -> Result<(), Fail> {
         Status::GraphText { line: 3 },
         b"",
     )
+}
+
+/// A graph is refused at this line, from 1.
+fn refuses_graph<R: Threads + Sync + Abort>(
+    rt: &R,
+    alloc: Global,
+    graph: &[u8],
+    line: u64,
+) -> Result<(), Fail> {
+    ends(
+        rt,
+        alloc,
+        WORDS,
+        [graph, ONE, TWO],
+        Status::GraphText { line },
+        b"",
+    )
+}
+
+#[test]
+fn a_graph_may_be_cut_short_or_too_large(rt: HostRuntime) -> Result<(), Fail> {
+    refuses_graph(&rt, rt.alloc(), b"p sp 2 1\n", 2)?;
+    refuses_graph(&rt, rt.alloc(), b"p sp 2 99999999999999999999\n", 1)
 }
 
 #[test]
@@ -299,6 +362,14 @@ fn other_words_are_no_run(rt: HostRuntime) -> Result<(), Fail> {
         rt.alloc(),
         &["run", "graph", "fleet", "stream", "--stop"],
         Status::Usage,
+    )?;
+    words_end(&rt, rt.alloc(), &["walk", "graph", "1"], Status::Usage)?;
+    words_end(&rt, rt.alloc(), &["walk", "graph", "1", "x"], Status::Usage)?;
+    words_end(
+        &rt,
+        rt.alloc(),
+        &["walk", "graph", "4294967296", "1"],
+        Status::Usage,
     )
 }
 
@@ -320,12 +391,6 @@ fn other_forms_are_not_answered_yet(rt: HostRuntime) -> Result<(), Fail> {
         &rt,
         rt.alloc(),
         &["audit", "graph", "fleet", "stream"],
-        Status::NotYet,
-    )?;
-    words_end(
-        &rt,
-        rt.alloc(),
-        &["walk", "graph", "1", "2"],
         Status::NotYet,
     )?;
     words_end(&rt, rt.alloc(), &["gen", "7"], Status::NotYet)

@@ -1,4 +1,4 @@
-// Tests of whole runs over memory: three texts on a shelf, the status, and the bytes that were taken.
+//! Tests of whole runs over memory: three texts on a shelf, the status, and the bytes that were taken.
 #![tactic(auto)]
 
 #[cfg(test)]
@@ -9,3 +9,7 @@ mod lines;
 mod rides;
 #[cfg(test)]
 mod runs;
+#[cfg(test)]
+mod walks;
+#[cfg(test)]
+mod watched;

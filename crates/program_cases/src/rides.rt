@@ -1,6 +1,6 @@
 ghost use Rattle.std.specs.Prelude.{◌<◌, ◌≤◌};
 
-use crate::runs::{FIRST, LINE, ONE, answers, ends};
+use crate::runs::{BOTH, FIRST, LINE, ONE, TWO, answers, ends};
 use dispatch_top::Status;
 use std::alloc::Global;
 use std::test::Fail;
@@ -31,10 +31,7 @@ fn no_request_is_answered_by_nothing(rt: HostRuntime) -> Result<(), Fail> {
 
 #[test]
 fn a_second_rider_joins(rt: HostRuntime) -> Result<(), Fail> {
-    let second = b"r 2 3 4 0 1\na 2 1 1 1 12 24 34\ng 1 2 3\ng 2 3 4\ng 3 4\n";
-    let output = joined(rt.alloc(), FIRST, second)?;
-    let stream = b"r 1 2 4 0 1\nr 2 3 4 0 1\n";
-    answers(&rt, rt.alloc(), [LINE, ONE, stream], output.as_slice())
+    answers(&rt, rt.alloc(), [LINE, ONE, TWO], BOTH)
 }
 
 #[test]
@@ -42,14 +39,66 @@ fn with_one_seat_the_second_rider_comes_later(rt: HostRuntime) -> Result<(), Fai
     let second = b"r 2 3 4 0 1\na 2 1 2 2 76 46 56\ng 2 4 3\ng 3 3 4\n";
     let output = joined(rt.alloc(), FIRST, second)?;
     let fleet = b"vehicle,start,seats,from,until\n1,1,1,0,1000\n";
-    let stream = b"r 1 2 4 0 1\nr 2 3 4 0 1\n";
-    answers(&rt, rt.alloc(), [LINE, fleet, stream], output.as_slice())
+    answers(&rt, rt.alloc(), [LINE, fleet, TWO], output.as_slice())
 }
 
 #[test]
 fn too_many_riders_find_nobody(rt: HostRuntime) -> Result<(), Fail> {
     let stream = b"r 1 2 4 0 3\n";
     answers(&rt, rt.alloc(), [LINE, ONE, stream], b"r 1 2 4 0 3\nn 1\n")
+}
+
+/// One vehicle at node 1 with two seats and a wheelchair space.
+const WITH_SPACE: &[u8] = b"vehicle,start,seats,from,until,spaces\n1,1,2,0,1000,1\n";
+
+/// What is printed of the first request on the line with a second rider in a space.
+const FIRST_WITH_SPACE: &[u8] = b"r 1 2 4 0 1 1\na 1 1 0 0 34 12 32\ng 0 1 2\ng 1 2 3 4\n";
+
+#[test]
+fn with_one_space_the_second_rider_comes_later(rt: HostRuntime) -> Result<(), Fail> {
+    let second = b"r 2 3 4 0 1 1\na 2 1 2 2 76 46 56\ng 2 4 3\ng 3 3 4\n";
+    let output = joined(rt.alloc(), FIRST_WITH_SPACE, second)?;
+    let stream = b"r 1 2 4 0 1 1\nr 2 3 4 0 1 1\n";
+    let texts = [LINE, WITH_SPACE, stream];
+    answers(&rt, rt.alloc(), texts, output.as_slice())
+}
+
+#[test]
+fn a_rider_on_a_seat_takes_no_space(rt: HostRuntime) -> Result<(), Fail> {
+    let second = b"r 2 3 4 0 1\na 2 1 1 1 10 24 34\ng 1 2 3\ng 2 3 4\ng 3 4\n";
+    let output = joined(rt.alloc(), FIRST_WITH_SPACE, second)?;
+    let stream = b"r 1 2 4 0 1 1\nr 2 3 4 0 1\n";
+    let texts = [LINE, WITH_SPACE, stream];
+    answers(&rt, rt.alloc(), texts, output.as_slice())
+}
+
+#[test]
+fn a_fleet_without_spaces_takes_no_wheelchair(rt: HostRuntime) -> Result<(), Fail> {
+    let stream = b"r 1 2 4 0 0 1\n";
+    answers(
+        &rt,
+        rt.alloc(),
+        [LINE, ONE, stream],
+        b"r 1 2 4 0 0 1\nn 1\n",
+    )
+}
+
+/// A road of the greatest weight, and a vehicle that serves to the last moment.
+const FAR: &[u8] = b"p sp 2 1\na 1 2 4294967295\n";
+
+const LATE: &[u8] = b"vehicle,start,seats,from,until\n1,1,2,0,1099511627776\n";
+
+#[test]
+fn the_greatest_weight_is_driven(rt: HostRuntime) -> Result<(), Fail> {
+    let output = b"r 1 1 2 0 1\na 1 1 0 0 4294967299 2 4294967297\ng 0 1\ng 1 1 2\n";
+    answers(&rt, rt.alloc(), [FAR, LATE, b"r 1 1 2 0 1\n"], output)
+}
+
+#[test]
+fn the_last_moment_is_too_late(rt: HostRuntime) -> Result<(), Fail> {
+    let stream = b"r 1 1 2 1099511627776 1\n";
+    let output = b"r 1 1 2 1099511627776 1\nn 1\n";
+    answers(&rt, rt.alloc(), [FAR, LATE, stream], output)
 }
 
 #[test]
@@ -79,14 +128,14 @@ fn a_one_way_road_leads_nowhere_back(rt: HostRuntime) -> Result<(), Fail> {
 
 #[test]
 fn a_ride_may_end_where_it_begins(rt: HostRuntime) -> Result<(), Fail> {
-    let output = b"r 1 2 2 0 1\na 1 1 0 0 16 12 12\ng 0 1 2\ng 1 2\n";
+    let output = b"r 1 2 2 0 1\na 1 1 0 0 14 12 12\ng 0 1 2\ng 1 2\n";
     answers(&rt, rt.alloc(), [LINE, ONE, b"r 1 2 2 0 1\n"], output)
 }
 
 #[test]
 fn an_early_rider_goes_first(rt: HostRuntime) -> Result<(), Fail> {
     let output =
-        b"r 1 2 4 100 1\na 1 1 0 0 34 100 120\ng 0 1 2\ng 1 2 3 4\nr 2 1 2 0 1\na 2 1 0 0 4 2 12\ng 0 1\ng 1 1 2\ng 2 2\n";
+        b"r 1 2 4 100 1\na 1 1 0 0 34 100 120\ng 0 1 2\ng 1 2 3 4\nr 2 1 2 0 1\na 2 1 0 0 2 2 12\ng 0 1\ng 1 1 2\ng 2 2\n";
     let stream = b"r 1 2 4 100 1\nr 2 1 2 0 1\n";
     answers(&rt, rt.alloc(), [LINE, ONE, stream], output)
 }
@@ -130,7 +179,7 @@ fn counted(alloc: Global, first: &[u8], from: usize, to: usize) -> Result<Vec<u8
 
 /// What is printed of a ride at the far end of a line of 130 nodes.
 fn far_ride(alloc: Global) -> Result<Vec<u8>, Fail> {
-    let head = b"r 1 130 130 0 1\na 1 1 0 0 365 131 131\n";
+    let head = b"r 1 130 130 0 1\na 1 1 0 0 363 131 131\n";
     let text = joined(alloc, head, counted(alloc, b"g 0", 1, 64)?.as_slice())?;
     let second = counted(alloc, b"h 0", 65, 128)?;
     let text = joined(alloc, text.as_slice(), second.as_slice())?;
@@ -162,7 +211,7 @@ fn push_ride(alloc: Global, text: &mut Vec<u8>, k: usize) -> Result<(), Fail>
     Ok(())
 }
 
-/// Its answer: it goes behind the stops of the rides before it.
+/// Its answer: it goes behind the stops of the rides before it, and only the first stop of all takes time.
 fn push_answer(alloc: Global, text: &mut Vec<u8>, k: usize) -> Result<(), Fail>
     requires some { 1 ≤ k }
     requires few { k < 1000 }
@@ -173,7 +222,7 @@ fn push_answer(alloc: Global, text: &mut Vec<u8>, k: usize) -> Result<(), Fail>
     push_number(alloc, text, 1)?;
     push_number(alloc, text, stops)?;
     push_number(alloc, text, stops)?;
-    push_number(alloc, text, 4)?;
+    push_number(alloc, text, if k == 1 { 2 } else { 0 })?;
     push_number(alloc, text, 100 * k)?;
     push_number(alloc, text, 100 * k)?;
     for leg in stops..stops + 2 {

@@ -1,5 +1,5 @@
 use dispatch_top::{Status, run};
-use ride_base::{MemoryShelf, MemorySink};
+use ride_base::{MemoryShelf, MemorySink, Shelf, Sink};
 use road_graph::Steps;
 use std::alloc::Global;
 use std::process::Abort;
@@ -14,6 +14,15 @@ pub const ONE: &[u8] = b"vehicle,start,seats,from,until\n1,1,2,0,1000\n";
 
 /// What is printed of the first request on the line, from 2 to 4.
 pub const FIRST: &[u8] = b"r 1 2 4 0 1\na 1 1 0 0 34 12 32\ng 0 1 2\ng 1 2 3 4\n";
+
+/// Two rides, and the lines of both answers.
+pub const TWO: &[u8] = b"r 1 2 4 0 1\nr 2 3 4 0 1\n";
+
+pub const BOTH: &[u8] =
+    b"r 1 2 4 0 1\na 1 1 0 0 34 12 32\ng 0 1 2\ng 1 2 3 4\nr 2 3 4 0 1\na 2 1 1 1 10 24 34\ng 1 2 3\ng 2 3 4\ng 3 4\n";
+
+/// A run over these three texts.
+pub const WORDS: &[&str] = &["run", "graph", "fleet", "stream"];
 
 /// A shelf with a graph, a fleet and a stream.
 pub fn shelf_of(alloc: Global, texts: [&[u8]; 3]) -> Result<MemoryShelf, Fail> {
@@ -35,12 +44,12 @@ pub fn words_of(alloc: Global, words: &[&str]) -> Result<Vec<String>, Fail> {
 }
 
 /// Runs over a shelf and a sink, and gives the status.
-pub fn status_of<R: Threads + Sync>(
+pub fn status_of<R: Threads + Sync, S: Shelf, K: Sink>(
     rt: &R,
     alloc: Global,
     words: &[&str],
-    shelf: &mut MemoryShelf,
-    sink: &mut MemorySink,
+    shelf: &mut S,
+    sink: &mut K,
 ) -> Result<Status, Fail> {
     let words = words_of(alloc, words)?;
     let mut steps = Steps::start(rt, ());
@@ -71,6 +80,5 @@ pub fn answers<R: Threads + Sync + Abort>(
     texts: [&[u8]; 3],
     output: &[u8],
 ) -> Result<(), Fail> {
-    let words = ["run", "graph", "fleet", "stream"];
-    ends(rt, alloc, words.as_slice(), texts, Status::Done, output)
+    ends(rt, alloc, WORDS, texts, Status::Done, output)
 }

@@ -1,4 +1,4 @@
-// Tests of the readers of graphs, places, fleets and stream lines, and of the words of command lines.
+//! Tests of the readers of graphs, places, fleets and stream lines, and of the words of command lines.
 #![tactic(auto)]
 
 #[cfg(test)]

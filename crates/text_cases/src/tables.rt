@@ -1,7 +1,7 @@
 ghost use Rattle.std.specs.Prelude.{IfOk, IsSome};
 
 use input_tables::FleetFault::{self, Double, Form, Header, Large, Range};
-use input_tables::StreamLine::{self, Move, Nothing};
+use input_tables::StreamLine::{self, Cancel, Move, Nothing};
 use input_tables::{StreamFault, read_fleet, stream_line};
 use ride_base::{Items, Line, MemoryShelf, RequestNo, Shelf};
 use road_graph::NodeNo;
@@ -12,14 +12,16 @@ use stop_schedule::{Request, Vehicle};
 
 const HEADER: &[u8] = b"vehicle,start,seats,from,until\n";
 
-/// A vehicle by its number, its start, its seats, and the beginning and end of its service.
-type Row = (u32, u32, u32, u64, u64);
+const SPACED_HEADER: &[u8] = b"vehicle,start,seats,from,until,spaces\n";
+
+/// A vehicle by its number, its start, its seats, the beginning and end of its service, and its wheelchair spaces.
+type Row = (u32, u32, u32, u64, u64, u32);
 
 /// A text with its vehicles or the fault.
 type TableCase = (&'static [u8], Result<&'static [Row], FleetFault>);
 
-/// A request by its number, its pickup, its dropoff, its moment and its riders.
-type Ride = (u64, u32, u32, u64, u32);
+/// A request by its number, its pickup, its dropoff, its moment, and its riders on seats and in wheelchair spaces.
+type Ride = (u64, u32, u32, u64, u32, u32);
 
 /// The latest moment.
 const LATEST: u64 = 1099511627776;
@@ -27,11 +29,11 @@ const LATEST: u64 = 1099511627776;
 /// The largest number of 32 bits.
 const LARGEST: u32 = 4294967295;
 
-const ONE: Row = (1, 1, 2, 0, 1000);
+const ONE: Row = (1, 1, 2, 0, 1000, 0);
 
-const TWO: Row = (2, 1, 2, 0, 1000);
+const TWO: Row = (2, 1, 2, 0, 1000, 0);
 
-const THREE: Row = (3, 1, 2, 0, 1000);
+const THREE: Row = (3, 1, 2, 0, 1000, 0);
 
 // A shelf with the text begun.
 fn begun(alloc: Global, text: &[u8]) -> Result<MemoryShelf, Fail>
@@ -49,7 +51,7 @@ fn are_rows(vehicles: &[Vehicle], rows: &[Row]) -> bool {
     }
     for k in 0..rows.len() {
         let v = vehicles[k];
-        if (v.no.0, v.start.0, v.seats, v.from, v.until) != rows[k] {
+        if (v.no.0, v.start.0, v.seats, v.from, v.until, v.spaces) != rows[k] {
             return false;
         }
     }
@@ -108,6 +110,14 @@ const HEADERS: &[TableCase] = &[
     (b"id", Err(Header)),
     (b"vehicle,start,seats,from", Err(Header)),
     (b"vehicle,start,seats,from,until,more", Err(Header)),
+    (b"vehicle,start,seats,from,until,", Err(Header)),
+    (b"vehicle,start,seats,from,until,spaces", Ok(&[])),
+    (b"vehicle,start,seats,from,until, \"spaces\" ", Err(Header)),
+    (b"vehicle,start,seats,from,until,\t spaces ", Ok(&[])),
+    (b"vehicle,start,seats,from,until,spaces,", Err(Header)),
+    (b"vehicle,start,seats,from,until,spaces,more", Err(Header)),
+    (b"vehicle,start,seats,spaces,from,until", Err(Header)),
+    (b"vehicle,start,seats,from,until,Spaces", Err(Header)),
     (b"Vehicle,start,seats,from,until", Err(Header)),
     (b"vehicle,start,seats,from,until", Ok(&[])),
     (
@@ -151,7 +161,11 @@ const ROWS: &[TableCase] = &[
     ),
     (
         b"10,1,2,0,1000\n9,1,2,0,1000\n11,1,2,0,1000\n",
-        Ok(&[(9, 1, 2, 0, 1000), (10, 1, 2, 0, 1000), (11, 1, 2, 0, 1000)]),
+        Ok(&[
+            (9, 1, 2, 0, 1000, 0),
+            (10, 1, 2, 0, 1000, 0),
+            (11, 1, 2, 0, 1000, 0),
+        ]),
     ),
 ];
 
@@ -164,7 +178,7 @@ const FIELDS: &[TableCase] = &[
     (b"\"1\",1,\" 2\t\",0,1000\n", Ok(&[ONE])),
     (b"\"\"\"1\"\"\",1,2,0,1000\n", Err(Form { row: 1 })),
     (b"\"1\n\",1,2,0,1000\n", Err(Form { row: 1 })),
-    (b"\"1\"2,1,2,0,1000\n", Ok(&[(12, 1, 2, 0, 1000)])),
+    (b"\"1\"2,1,2,0,1000\n", Ok(&[(12, 1, 2, 0, 1000, 0)])),
     (b"1,1,2,0,\"1000", Ok(&[ONE])),
     (b"1,1,2,0,\"1000\n", Err(Form { row: 1 })),
     (b"\"1,1,2,0,1000\n", Err(Form { row: 1 })),
@@ -191,22 +205,25 @@ fn fields(rt: HostRuntime) -> Result<(), Fail> {
 
 const RANGES: &[TableCase] = &[
     (b"0,1,2,0,1000\n", Err(Range { row: 1 })),
-    (b"4294967295,1,2,0,1000\n", Ok(&[(LARGEST, 1, 2, 0, 1000)])),
+    (
+        b"4294967295,1,2,0,1000\n",
+        Ok(&[(LARGEST, 1, 2, 0, 1000, 0)]),
+    ),
     (b"4294967296,1,2,0,1000\n", Err(Range { row: 1 })),
     (b"18446744073709551617,1,2,0,1000\n", Err(Range { row: 1 })),
     (b"1,0,2,0,1000\n", Err(Range { row: 1 })),
-    (b"1,4,2,0,1000\n", Ok(&[(1, 4, 2, 0, 1000)])),
+    (b"1,4,2,0,1000\n", Ok(&[(1, 4, 2, 0, 1000, 0)])),
     (b"1,5,2,0,1000\n", Err(Range { row: 1 })),
     (b"1,4294967297,2,0,1000\n", Err(Range { row: 1 })),
     (b"1,1,0,0,1000\n", Err(Range { row: 1 })),
-    (b"1,1,1,0,1000\n", Ok(&[(1, 1, 1, 0, 1000)])),
-    (b"1,1,16,0,1000\n", Ok(&[(1, 1, 16, 0, 1000)])),
+    (b"1,1,1,0,1000\n", Ok(&[(1, 1, 1, 0, 1000, 0)])),
+    (b"1,1,16,0,1000\n", Ok(&[(1, 1, 16, 0, 1000, 0)])),
     (b"1,1,17,0,1000\n", Err(Range { row: 1 })),
-    (b"1,1,2,7,7\n", Ok(&[(1, 1, 2, 7, 7)])),
+    (b"1,1,2,7,7\n", Ok(&[(1, 1, 2, 7, 7, 0)])),
     (b"1,1,2,8,7\n", Err(Range { row: 1 })),
     (
         b"1,1,2,1099511627776,1099511627776\n",
-        Ok(&[(1, 1, 2, LATEST, LATEST)]),
+        Ok(&[(1, 1, 2, LATEST, LATEST, 0)]),
     ),
     (b"1,1,2,0,1099511627777\n", Err(Range { row: 1 })),
     (
@@ -218,6 +235,26 @@ const RANGES: &[TableCase] = &[
 #[test]
 fn ranges(rt: HostRuntime) -> Result<(), Fail> {
     are_tables(&rt, rt.alloc(), HEADER, RANGES)
+}
+
+const SPACES: &[TableCase] = &[
+    (b"", Ok(&[])),
+    (b"1,1,2,0,1000,1\n", Ok(&[(1, 1, 2, 0, 1000, 1)])),
+    (b"1,1,2,0,1000,0\n2,1,2,0,1000,00", Ok(&[ONE, TWO])),
+    (b"1,1,16,0,1000,16\n", Ok(&[(1, 1, 16, 0, 1000, 16)])),
+    (b"1,1,2,0,1000,17\n", Err(Range { row: 1 })),
+    (b"1,1,2,0,1000,4294967297\n", Err(Range { row: 1 })),
+    (b"1,1,2,0,1000\n", Err(Form { row: 1 })),
+    (b"1,1,2,0,1000,1,1\n", Err(Form { row: 1 })),
+    (b"1,1,2,0,1000,\n", Err(Form { row: 1 })),
+    (b"1,1,2,0,1000,x\n", Err(Form { row: 1 })),
+    (b"1,1,17,0,1000,x\n", Err(Form { row: 1 })),
+    (b"1,1,2,0,1000,1\n1,1,2,0,1000,2\n", Err(Double { row: 2 })),
+];
+
+#[test]
+fn wheelchair_spaces(rt: HostRuntime) -> Result<(), Fail> {
+    are_tables(&rt, rt.alloc(), SPACED_HEADER, SPACES)
 }
 
 /// How many vehicles the text that is begun gives.
@@ -332,6 +369,9 @@ const LINES: &[(&[u8], StreamLine)] = &[
     (b"c", Nothing),
     (b" \tcomment \xff r", Nothing),
     (b"t 1099511627776", Move(LATEST)),
+    (b"y 7", Cancel(RequestNo(7))),
+    (b" y\t007 ", Cancel(RequestNo(7))),
+    (b"y 1099511627776", Cancel(RequestNo(LATEST))),
 ];
 
 #[test]
@@ -343,25 +383,29 @@ fn lines(rt: HostRuntime) -> Result<(), Fail> {
 }
 
 const RIDES: &[(&[u8], Ride)] = &[
-    (b"r 7 2 4 0 1", (7, 2, 4, 0, 1)),
+    (b"r 7 2 4 0 1", (7, 2, 4, 0, 1, 0)),
     (
         b"\t r  007\t2 4 00000000000000000000000000 1 ",
-        (7, 2, 4, 0, 1),
+        (7, 2, 4, 0, 1, 0),
     ),
-    (b"r 0 0 0 0 0", (0, 0, 0, 0, 0)),
+    (b"r 0 0 0 0 0", (0, 0, 0, 0, 0, 0)),
     (
         b"r 1099511627776 4294967295 4294967295 1099511627776 4294967295",
-        (LATEST, LARGEST, LARGEST, LATEST, LARGEST),
+        (LATEST, LARGEST, LARGEST, LATEST, LARGEST, 0),
     ),
+    (b"r 7 2 4 0 1 1", (7, 2, 4, 0, 1, 1)),
+    (b"r 7 2 4 0 0 0", (7, 2, 4, 0, 0, 0)),
+    (b"r 7 2 4 0 0 \t 4294967295 ", (7, 2, 4, 0, 0, LARGEST)),
 ];
 
-fn ride((no, pickup, dropoff, moment, riders): Ride) -> StreamLine {
+fn ride((no, pickup, dropoff, moment, riders, spaces): Ride) -> StreamLine {
     StreamLine::Ride(Request {
         no: RequestNo(no),
         pickup: NodeNo(pickup),
         dropoff: NodeNo(dropoff),
         moment,
         riders,
+        spaces,
     })
 }
 
@@ -375,7 +419,8 @@ fn rides(rt: HostRuntime) -> Result<(), Fail> {
 
 const NO_FORMS: &[&[u8]] = &[
     b"r 7 2 4 0",
-    b"r 7 2 4 0 1 1",
+    b"r 7 2 4 0 1 1 1",
+    b"r 7 2 4 0 1 x",
     b"r",
     b"t",
     b"t 5 5",
@@ -391,6 +436,12 @@ const NO_FORMS: &[&[u8]] = &[
     b"r 7 2 4 0 -1",
     b"r 1099511627777 2 4 0 x",
     b"r 7,2,4,0,1",
+    b"y",
+    b"y 7 7",
+    b"y x",
+    b"y -7",
+    b"y7",
+    b"Y 7",
 ];
 
 #[test]
@@ -406,6 +457,9 @@ const PAST_RANGES: &[&[u8]] = &[
     b"r 7 2 4294967296 0 1",
     b"r 7 2 4 1099511627777 1",
     b"r 7 2 4 0 4294967296",
+    b"r 7 2 4 0 1 4294967296",
+    b"y 1099511627777",
+    b"y 18446744073709551623",
 ];
 
 #[test]
