@@ -82,7 +82,8 @@ fn bridges_from(
     requires ups { AreHere (length rows.now) ups.now }
     requires sound { AreSound From rows.now }
     requires marked { IsMarked (length rows.now) search.old }
-    ensures found { OnOk result (AreFrom (2 ^ 53) node down ups.now (Stands rows.now) found.old found.new) }
+    ensures found { OnOk result
+        (AreFrom (2 ^ 53) node down ups.now (Stands rows.now) found.old found.new) }
     ensures marked { OnOk result (IsMarked (length rows.now) search.new) }
 {
     search.run(rows, down.from, node, longest(down, ups), MANY)?;
@@ -105,7 +106,8 @@ pub(crate) fn bridges(
     requires outs { AreHere (length rows.now) outs.now }
     requires sound { AreSound From rows.now }
     requires marked { IsMarked (length rows.now) search.old }
-    ensures found { IfOk result (λ found. AreBridges (2 ^ 53) node ins.now outs.now (Stands rows.now) found) }
+    ensures found { IfOk result
+        (λ found. AreBridges (2 ^ 53) node ins.now outs.now (Stands rows.now) found) }
     ensures marked { IfOk result (λ _. IsMarked (length rows.now) search.new) }
 {
     let mut found = Items::new(alloc);

@@ -132,7 +132,8 @@ pub(crate) fn put(
     requires standing { AreStanding outs.old.items ins.old.items }
     requires same { length ins.old.items ≡ length outs.old.items }
     requires here { AreHere (length outs.old.items) arcs.now }
-    ensures { OnOk result (ArePut arcs.now outs.old.items ins.old.items outs.new.items ins.new.items) }
+    ensures { OnOk result
+        (ArePut arcs.now outs.old.items ins.old.items outs.new.items ins.new.items) }
 {
     for arc in arcs {
         attach(alloc, outs, *arc, End::From)?;

@@ -39,7 +39,8 @@ fn roads_into<L>(
     steps: &mut Steps<L>,
 ) -> Result<(), NoMemory>
     requires { IsNode graph.now node }
-    ensures found { OnOk result (AreInto graph.now node (length (ins graph.now node)) found.old found.new) }
+    ensures found { OnOk result
+        (AreInto graph.now node (length (ins graph.now node)) found.old found.new) }
     ensures asks { steps.new.1 ≡ steps.old.1 }
     ensures steps { steps.old.0 ≤ steps.new.0 }
 {

@@ -69,7 +69,8 @@ impl Work {
         requires room { rank < graph.now.nodes }
         ensures work { OnOk result (IsWork graph.now (rank + 1) self.new) }
         ensures marked { OnOk result (IsMarked (graph.now.nodes + 1) search.new) }
-        ensures ranks { OnOk result (IsNextRank self.old.ranks.items self.new.ranks.items node rank) }
+        ensures ranks { OnOk result
+            (IsNextRank self.old.ranks.items self.new.ranks.items node rank) }
     {
         let outs = take_row(alloc, &mut self.outs, node);
         let ins = take_row(alloc, &mut self.ins, node);

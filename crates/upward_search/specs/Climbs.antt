@@ -43,3 +43,10 @@ pub record IsSpace (rows : List (List Arc)) (start : ℕ) (space : List Label) :
 -- how many arcs leave the places of a space
 abbrev pub work : List (List Arc) → List Label → ℕ
 work rows space = sum_by (λ (r : Label). length (row rows r.place)) space
+
+-- exactly the arcs of a space were read, or no more
+abbrev pub ReadsSpace : List (List Arc) → ℕ → ℕ → List Label → Type 0
+ReadsSpace rows old new space = new ≡ old + work rows space
+
+abbrev pub IsWithinSpace : List (List Arc) → ℕ → ℕ → ℕ → Type 0
+IsWithinSpace rows start old new = (space : List Label) → IsSpace rows start space → new ≤ old + work rows space

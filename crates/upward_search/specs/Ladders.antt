@@ -4,8 +4,9 @@ use Rattle.road_graph.specs.Roads.{Roads, IsNode, least_weight}
 use Rattle.road_graph.specs.Graphs.{IsGraph}
 use Rattle.road_graph.specs.Walks.{IsDist, NoWalk}
 use Rattle.upward_search.specs.declared.slope.Arc.{Arc}
+use Rattle.upward_search.specs.declared.slope.Label.{Label}
 use Rattle.upward_search.specs.Rows.{row, IsUpward}
-use Rattle.upward_search.specs.Climbs.{IsIn, IsClimb, climb_length}
+use Rattle.upward_search.specs.Climbs.{IsIn, IsClimb, climb_length, IsSpace, work}
 
 -- the nodes in the order of their ranks, the place of each at its number, the climbing arcs at the places that they leave, and the falling arcs at the places that they
 -- enter, each with the higher end as its other end
@@ -70,6 +71,13 @@ pub record LadderFits (g : Roads) (h : Ladder) : Type 0 where
 abbrev pub IsLeastTop : Ladder → ℕ → ℕ → Option ℕ → Type 0
 IsLeastTop h p q None = (x : ℕ) → IsTop h p q x → 2 ^ 53 ≤ x
 IsLeastTop h p q (Some y) = IsTop h p q y × ((x : ℕ) → IsTop h p q x → (y ≤ x) ⊎ (2 ^ 53 ≤ x))
+
+-- exactly the arcs of a place's space along climbing arcs and of another's against falling arcs were read, or no more
+abbrev pub ReadsTwoSpaces : Ladder → ℕ → ℕ → ℕ → ℕ → Type 0
+ReadsTwoSpaces h p q old new = (left right : List Label) → IsSpace h.climbs p left → IsSpace h.falls q right → new ≡ old + (work h.climbs left + work h.falls right)
+
+abbrev pub IsWithinTwoSpaces : Ladder → ℕ → ℕ → ℕ → ℕ → Type 0
+IsWithinTwoSpaces h p q old new = (left right : List Label) → IsSpace h.climbs p left → IsSpace h.falls q right → new ≤ old + (work h.climbs left + work h.falls right)
 
 abbrev pub IsNamed : Ladder → NodeNo → Type 0
 IsNamed h n = (1 ≤ n.0) × (n.0 ≤ length h.nodes)

@@ -10,6 +10,10 @@ pub record AreRests (h : Ladder) (q : ℕ) (space : List Label) (rests : List (O
   pub many : length rests ≡ length space
   pub each : (k : ℕ) (r : Label) → from ≤ k → slice_get space k ≡ Some r → IsLeastTop h r.place q (slice_index_or rests k None)
 
+-- the least length over a higher place, from the place at an index
+abbrev pub IsRestAt : Ladder → ℕ → List Label → ℕ → Option ℕ → Type 0
+IsRestAt h q space index o = (d : Label) → IsLeastTop h (slice_index_or space index d).place q o
+
 -- a way begins with no arc, or with one that stands below an index of its row
 abbrev pub BeginsBelow : List Arc → ℕ → List Arc → Type 0
 BeginsBelow arcs i [] = Unit {0}

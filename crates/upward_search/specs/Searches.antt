@@ -42,6 +42,10 @@ pub record AreOffered (arcs : List Arc) (r : Label) (old new : List Label) (i : 
   pub each : (k : ℕ) (a : Arc) → k < i → slice_get arcs k ≡ Some a → r.length + a.length < 2 ^ 53 → Contains new (offer r a)
   pub only : (o : Label) → Contains new o → Contains old o ⊎ ((k : ℕ) × (a : Arc) × (slice_get arcs k ≡ Some a) × (o ≡ offer r a) × (r.length + a.length < 2 ^ 53))
 
+-- the same of all arcs of a label's row
+abbrev pub IsRowOffered : List (List Arc) → Label → List Label → List Label → Type 0
+IsRowOffered rows r old new = AreOffered (row rows r.place) r old new (length (row rows r.place))
+
 abbrev pub IsTaken : List Label → ℕ → ℕ → Type 0
 IsTaken space q x = (r : Label) × IsIn space r × (r.place ≡ q) × (r.length ≤ x)
 

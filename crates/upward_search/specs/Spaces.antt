@@ -47,6 +47,13 @@ abbrev pub falling_arcs : Ranking → List (NodeNo × ℕ) → ℕ
 falling_arcs h [] = 0
 falling_arcs h (l ∷ space) = arcs_into h.falling l.0 + falling_arcs h space
 
+-- exactly the arcs of the space were read
+abbrev pub ReadsForward : Ranking → ℕ → ℕ → List (NodeNo × ℕ) → Type 0
+ReadsForward h old new space = new ≡ old + climbing_arcs h space
+
+abbrev pub ReadsBackward : Ranking → ℕ → ℕ → List (NodeNo × ℕ) → Type 0
+ReadsBackward h old new space = new ≡ old + falling_arcs h space
+
 -- no more was read than the arcs of the space
 abbrev pub IsWithinForward : Ranking → NodeNo → ℕ → ℕ → Type 0
 IsWithinForward h node old new = (space : List (NodeNo × ℕ)) → IsForwardSpace h node space → new ≤ old + climbing_arcs h space
@@ -62,8 +69,8 @@ abbrev pub both_arcs : Ranking → List (NodeNo × ℕ) → List (NodeNo × ℕ)
 both_arcs h there back = climbing_arcs h there + falling_arcs h back
 
 -- exactly these were read, or no more
-abbrev pub IsOfBoth : Ranking → NodeNo → NodeNo → ℕ → ℕ → Type 0
-IsOfBoth h from to old new = (there back : List (NodeNo × ℕ)) → AreSpaces h from to there back → new ≡ old + both_arcs h there back
+abbrev pub ReadsBoth : Ranking → NodeNo → NodeNo → ℕ → ℕ → Type 0
+ReadsBoth h from to old new = (there back : List (NodeNo × ℕ)) → AreSpaces h from to there back → new ≡ old + both_arcs h there back
 
 abbrev pub IsWithinBoth : Ranking → NodeNo → NodeNo → ℕ → ℕ → Type 0
 IsWithinBoth h from to old new = (there back : List (NodeNo × ℕ)) → AreSpaces h from to there back → new ≤ old + both_arcs h there back

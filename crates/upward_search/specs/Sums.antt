@@ -1,5 +1,6 @@
 use Rattle.std.specs.Prelude.{◌≡◌, ℕ, ◌+◌, ◌<◌, ◌≤◌, ◌^◌, ◌⊎◌, List, Option, Some, None, min, slice_get}
 use Rattle.upward_search.specs.declared.slope.Label.{Label}
+use Rattle.upward_search.specs.declared.meeting.Meeting.{Meeting}
 use Rattle.upward_search.specs.Climbs.{IsIn}
 
 abbrev pub lesser_of : Option ℕ → ℕ → ℕ
@@ -32,6 +33,16 @@ IsAtMost (Some y) x = y ≤ x
 abbrev pub IsReached : List Label → List Label → Option ℕ → Type 0
 IsReached left right None = Unit {0}
 IsReached left right (Some x) = Common left right x
+
+-- one label further in both lists, with the sum at the place that they share, or in one of them
+abbrev pub IsPastBoth : Meeting → Label → Label → Meeting → Type 0
+IsPastBoth at r t next = (next.left ≡ at.left + 1) × (next.right ≡ at.right + 1) × (next.least ≡ Some (lesser_of at.least (r.length + t.length)))
+
+abbrev pub IsPastLeft : Meeting → Meeting → Type 0
+IsPastLeft at next = (next.left ≡ at.left + 1) × (next.right ≡ at.right) × (next.least ≡ at.least)
+
+abbrev pub IsPastRight : Meeting → Meeting → Type 0
+IsPastRight at next = (next.left ≡ at.left) × (next.right ≡ at.right + 1) × (next.least ≡ at.least)
 
 -- the least sum over places of which one stands before an index
 pub record IsCompared (left right : List Label) (i j : ℕ) (least : Option ℕ) : Type 0 where

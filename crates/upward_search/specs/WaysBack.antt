@@ -1,9 +1,9 @@
-use Rattle.std.specs.Prelude.{◌≡◌, ℕ, ◌+◌, ◌<◌, ◌≤◌, List, [], ◌∷◌, length, Some, slice_get, sum_by}
+use Rattle.std.specs.Prelude.{◌≡◌, ℕ, ◌+◌, ◌<◌, ◌≤◌, List, [], ◌∷◌, length, Some, slice_get, slice_index_or, sum_by}
 use Rattle.upward_search.specs.declared.slope.Arc.{Arc}
 use Rattle.upward_search.specs.declared.slope.Label.{Label}
 use Rattle.upward_search.specs.declared.backing.Rung.{Rung}
 use Rattle.upward_search.specs.Rows.{row}
-use Rattle.upward_search.specs.Climbs.{IsIn}
+use Rattle.upward_search.specs.Climbs.{IsIn, IsSpace}
 
 -- no arc below an index makes up the rest of a label
 abbrev pub LacksArc : List Arc → Label → Label → ℕ → Type 0
@@ -25,6 +25,10 @@ rungs_length gs = sum_by (λ (g : Rung). g.arc.length) gs
 pub record IsWayBack (rows : List (List Arc)) (start : ℕ) (top : Label) (rungs : List Rung) : Type 0 where
   pub leads : AreRungs rows start top.place rungs
   pub long : rungs_length rungs ≡ top.length
+
+-- the way back from the label at an index, whatever place the space is that of
+abbrev pub IsWayBackFrom : List (List Arc) → List Label → ℕ → List Rung → Type 0
+IsWayBackFrom rows space top rungs = (start : ℕ) (d : Label) → IsSpace rows start space → IsWayBack rows start (slice_index_or space top d) rungs
 
 -- the way from a label that stands at or after an index up to the top, and no label between the index and it is before it
 pub record IsBack (rows : List (List Arc)) (space : List Label) (top : Label) (i : ℕ) (at : Label) (rungs : List Rung) : Type 0 where

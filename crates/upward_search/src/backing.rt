@@ -1,8 +1,6 @@
-ghost use Rattle.std.specs.Prelude.{◌≡◌, ℕ, ◌+◌, ◌<◌, ◌≤◌, ◌^◌, List, [], length, IfOk, MatchOption, slice_index_or};
-ghost use Rattle.upward_search.specs.declared.slope.Label.{Label as LabelOf};
-ghost use Rattle.upward_search.specs.Rows.{row};
-ghost use Rattle.upward_search.specs.Climbs.{IsRisingWithin, IsSpace};
-ghost use Rattle.upward_search.specs.WaysBack.{LacksArc, IsArcBetween, IsWayBack};
+ghost use Rattle.std.specs.Prelude.{◌<◌, List, [], length, IfOk, MatchOption};
+ghost use Rattle.upward_search.specs.Climbs.{IsRisingWithin};
+ghost use Rattle.upward_search.specs.WaysBack.{LacksArc, IsArcBetween, IsWayBackFrom};
 
 use crate::slope::{Arc, Label, Slopes};
 use ride_base::NoMemory;
@@ -24,7 +22,7 @@ pub(crate) fn climb_back(
 ) -> Result<Vec<Rung>, NoMemory>
     requires rising { IsRisingWithin 0 (length slopes.now) space.now }
     requires top { top < length space.now }
-    ensures { IfOk result (λ rungs. (start : ℕ) (d : LabelOf) → IsSpace slopes.now start space.now → IsWayBack slopes.now start (slice_index_or space.now top d) rungs.items) }
+    ensures { IfOk result (λ rungs. IsWayBackFrom slopes.now space.now top rungs.items) }
 {
     let mut rungs = Vec::new(alloc);
     let mut at = space[top];
@@ -45,7 +43,9 @@ pub(crate) fn climb_back(
 
 /// An arc that makes up the rest of a label.
 fn arc_between(arcs: &[Arc], below: Label, at: Label) -> Option<Arc>
-    ensures { MatchOption result (LacksArc arcs.now below at (length arcs.now)) (IsArcBetween arcs.now below at) }
+    ensures { MatchOption result
+        (LacksArc arcs.now below at (length arcs.now))
+        (IsArcBetween arcs.now below at) }
 {
     if below.length > at.length {
         return None;

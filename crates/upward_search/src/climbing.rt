@@ -1,8 +1,7 @@
-ghost use Rattle.std.specs.Prelude.{◌≡◌, ℕ, ◌+◌, ◌<◌, ◌≤◌, ◌^◌, length, List, IfOk, OnErr, MatchResult};
+ghost use Rattle.std.specs.Prelude.{◌≡◌, ◌+◌, ◌<◌, ◌≤◌, ◌^◌, length, IfOk, OnErr, MatchResult};
 ghost use Rattle.upward_search.specs.Rows.{row, IsUpward};
-ghost use Rattle.upward_search.specs.Climbs.{IsSpace, work};
-ghost use Rattle.upward_search.specs.declared.slope.Label.{Label as LabelOf};
-ghost use Rattle.upward_search.specs.Searches.{AreOffered, Offers};
+ghost use Rattle.upward_search.specs.Climbs.{IsSpace, ReadsSpace, IsWithinSpace};
+ghost use Rattle.upward_search.specs.Searches.{IsRowOffered, Offers};
 
 use crate::slope::{Arc, Label, Slopes};
 use crate::waiting::Waiting;
@@ -19,8 +18,8 @@ pub(crate) fn climb<L>(
 ) -> Result<Items<Label>, NoMemory>
     requires { start < length slopes.now }
     ensures space { IfOk result (IsSpace slopes.now start) }
-    ensures steps { IfOk result (λ space. steps.new.0 ≡ steps.old.0 + work slopes.now space) }
-    ensures spent { OnErr result ((space : List LabelOf) → IsSpace slopes.now start space → steps.new.0 ≤ steps.old.0 + work slopes.now space) }
+    ensures steps { IfOk result (ReadsSpace slopes.now steps.old.0 steps.new.0) }
+    ensures spent { OnErr result (IsWithinSpace slopes.now start steps.old.0 steps.new.0) }
     ensures asks { steps.new.1 ≡ steps.old.1 }
 {
     let mut space = Items::new(alloc);
@@ -47,8 +46,10 @@ fn offer_arcs<L>(
 ) -> Result<(), NoMemory>
     requires place { label.place < length slopes.now }
     requires near { label.length < 2 ^ 53 }
-    ensures offered { IfOk result (λ _. AreOffered (row slopes.now label.place) label waiting.old waiting.new (length (row slopes.now label.place))) }
-    ensures steps { MatchResult result (λ _. steps.new.0 ≡ steps.old.0 + length (row slopes.now label.place)) (λ _. steps.new.0 ≤ steps.old.0 + length (row slopes.now label.place)) }
+    ensures offered { IfOk result (λ _. IsRowOffered slopes.now label waiting.old waiting.new) }
+    ensures steps { MatchResult result
+        (λ _. steps.new.0 ≡ steps.old.0 + length (row slopes.now label.place))
+        (λ _. steps.new.0 ≤ steps.old.0 + length (row slopes.now label.place)) }
     ensures asks { steps.new.1 ≡ steps.old.1 }
     ensures upward { IsUpward slopes.now }
 {

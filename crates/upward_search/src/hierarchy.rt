@@ -2,7 +2,7 @@ ghost use Rattle.std.specs.Prelude.{◌≡◌, ◌+◌, length, IfOk, OnErr, Mat
 ghost use Rattle.road_graph.specs.Walks.{IsLeastWalk, NoWalk};
 ghost use Rattle.upward_search.specs.Fitting.{IsFitting};
 ghost use Rattle.upward_search.specs.Hierarchies.{Fits, HasRank, HasAsMany, IsDistanceOn};
-ghost use Rattle.upward_search.specs.Spaces.{AreRankedNodes, AreRestsOn, IsForwardSpace, IsBackwardSpace, IsWithinForward, IsWithinBackward, IsOfBoth, IsWithinBoth, climbing_arcs, falling_arcs};
+ghost use Rattle.upward_search.specs.Spaces.{AreRankedNodes, AreRestsOn, IsForwardSpace, IsBackwardSpace, ReadsForward, ReadsBackward, IsWithinForward, IsWithinBackward, ReadsBoth, IsWithinBoth};
 
 use crate::arc::RankArc;
 use crate::levels::Levels;
@@ -77,7 +77,7 @@ impl Hierarchy {
     ) -> Result<Space, NoMemory>
         requires { HasRank self.now node }
         ensures space { IfOk result (IsForwardSpace self.now node) }
-        ensures steps { IfOk result (λ space. steps.new.0 ≡ steps.old.0 + climbing_arcs self.now space) }
+        ensures steps { IfOk result (ReadsForward self.now steps.old.0 steps.new.0) }
         ensures spent { OnErr result (IsWithinForward self.now node steps.old.0 steps.new.0) }
         ensures asks { steps.new.1 ≡ steps.old.1 }
     {
@@ -98,7 +98,7 @@ impl Hierarchy {
     ) -> Result<Space, NoMemory>
         requires { HasRank self.now node }
         ensures space { IfOk result (IsBackwardSpace self.now node) }
-        ensures steps { IfOk result (λ space. steps.new.0 ≡ steps.old.0 + falling_arcs self.now space) }
+        ensures steps { IfOk result (ReadsBackward self.now steps.old.0 steps.new.0) }
         ensures spent { OnErr result (IsWithinBackward self.now node steps.old.0 steps.new.0) }
         ensures asks { steps.new.1 ≡ steps.old.1 }
     {
@@ -121,7 +121,7 @@ impl Hierarchy {
         requires from { HasRank self.now from }
         requires to { HasRank self.now to }
         ensures distance { IfOk result (IsDistanceOn self.now from to) }
-        ensures steps { IfOk result (λ _. IsOfBoth self.now from to steps.old.0 steps.new.0) }
+        ensures steps { IfOk result (λ _. ReadsBoth self.now from to steps.old.0 steps.new.0) }
         ensures spent { OnErr result (IsWithinBoth self.now from to steps.old.0 steps.new.0) }
         ensures asks { steps.new.1 ≡ steps.old.1 }
     {
@@ -162,7 +162,8 @@ impl Hierarchy {
         requires fits { Fits graph.now self.now }
         requires from { HasRank self.now from }
         requires to { HasRank self.now to }
-        ensures walk { IfOk result (λ found. MatchOption found (NoWalk graph.now from to) (IsLeastWalk graph.now from to)) }
+        ensures walk { IfOk result (λ found.
+            MatchOption found (NoWalk graph.now from to) (IsLeastWalk graph.now from to)) }
         ensures asks { steps.new.1 ≡ steps.old.1 }
     {
         self.levels.laws();

@@ -1,11 +1,11 @@
-ghost use Rattle.std.specs.Prelude.{◌≡◌, ℕ, ◌+◌, ◌<◌, ◌≤◌, ◌^◌, List, length, IfOk, OnErr, slice_index_or, map};
+ghost use Rattle.std.specs.Prelude.{◌≡◌, ℕ, ◌+◌, ◌<◌, ◌≤◌, ◌^◌, length, IfOk, OnErr, slice_index_or, map};
 ghost use Rattle.road_graph.specs.Roads.{Roads};
 ghost use Rattle.upward_search.specs.declared.slope.Label.{Label as LabelOf};
-ghost use Rattle.upward_search.specs.Climbs.{IsIn, IsRisingWithin, IsSpace, work};
+ghost use Rattle.upward_search.specs.Climbs.{IsIn, IsRisingWithin, IsSpace, ReadsSpace, IsWithinSpace};
 ghost use Rattle.upward_search.specs.Rows.{row as row_at};
-ghost use Rattle.upward_search.specs.WaysBack.{IsWayBack};
-ghost use Rattle.upward_search.specs.Rests.{AreRests, IsOverArc};
-ghost use Rattle.upward_search.specs.Ladders.{IsLeastTop, IsNamed, IsAt, IsLadder, AreApart, ArePlaces, LadderFits};
+ghost use Rattle.upward_search.specs.WaysBack.{IsWayBackFrom};
+ghost use Rattle.upward_search.specs.Rests.{AreRests, IsRestAt, IsOverArc};
+ghost use Rattle.upward_search.specs.Ladders.{IsLeastTop, ReadsTwoSpaces, IsWithinTwoSpaces, IsNamed, IsAt, IsLadder, AreApart, ArePlaces, LadderFits};
 ghost use Rattle.upward_search.specs.Rows.{count_rows};
 ghost use Rattle.upward_search.specs.Names.{AreListed, AreRising, AreRestsTo, AreIn, label_by, AreNamed};
 
@@ -36,9 +36,13 @@ impl Model for Levels {
 
     ghost Value = { Ladder };
 
-    ghost view = { λ s. record { nodes = s.nodes; places = s.places; climbs = s.climbing; falls = s.falling } };
+    ghost view = { λ s.
+        record { nodes = s.nodes; places = s.places; climbs = s.climbing; falls = s.falling } };
 
-    ghost invariant = { λ s. IsLadder (record { nodes = s.nodes; places = s.places; climbs = s.climbing; falls = s.falling }) × ArePlaces s.nodes s.places };
+    ghost invariant = { λ s.
+        IsLadder
+        (record { nodes = s.nodes; places = s.places; climbs = s.climbing; falls = s.falling })
+        × ArePlaces s.nodes s.places };
 }
 
 impl Levels {
@@ -52,7 +56,8 @@ impl Levels {
     ) -> Result<Vec<Option<u64>>, NoMemory>
         requires rises { AreRising self.now space.now }
         requires to { IsNamed self.now to }
-        ensures rests { IfOk result (λ rests. (g : Roads) → LadderFits g self.now → AreRestsTo g space.now to rests.items) }
+        ensures rests { IfOk result (λ rests.
+            (g : Roads) → LadderFits g self.now → AreRestsTo g space.now to rests.items) }
         ensures asks { steps.new.1 ≡ steps.old.1 }
     {
         let labels = self.labels(alloc, space.as_slice())?;
@@ -62,7 +67,8 @@ impl Levels {
     /// The labels of listed nodes.
     fn labels(&self, alloc: Global, listed: &[(NodeNo, u64)]) -> Result<Vec<Label>, NoMemory>
         requires { AreRising self.now listed.now }
-        ensures rise { IfOk result (λ labels. IsRisingWithin 0 (length self.now.nodes) labels.items) }
+        ensures rise { IfOk result (λ labels.
+            IsRisingWithin 0 (length self.now.nodes) labels.items) }
         ensures are { IfOk result (λ labels. AreListed self.now.nodes labels.items listed.now) }
         ensures ladder { IsLadder self.now }
     {
@@ -124,8 +130,8 @@ impl Levels {
         requires from { from < length self.now.nodes }
         requires to { to < length self.now.nodes }
         ensures least { IfOk result (IsLeastTop self.now from to) }
-        ensures steps { IfOk result (λ _. (left right : List LabelOf) → IsSpace self.now.climbs from left → IsSpace self.now.falls to right → steps.new.0 ≡ steps.old.0 + (work self.now.climbs left + work self.now.falls right)) }
-        ensures spent { OnErr result ((left right : List LabelOf) → IsSpace self.now.climbs from left → IsSpace self.now.falls to right → steps.new.0 ≤ steps.old.0 + (work self.now.climbs left + work self.now.falls right)) }
+        ensures steps { IfOk result (λ _. ReadsTwoSpaces self.now from to steps.old.0 steps.new.0) }
+        ensures spent { OnErr result (IsWithinTwoSpaces self.now from to steps.old.0 steps.new.0) }
         ensures asks { steps.new.1 ≡ steps.old.1 }
     {
         let left = climb(alloc, &self.climbing, from, steps)?;
@@ -162,8 +168,8 @@ impl Levels {
     ) -> Result<Items<Label>, NoMemory>
         requires { start < length self.now.nodes }
         ensures space { IfOk result (IsSpace self.now.climbs start) }
-        ensures steps { IfOk result (λ space. steps.new.0 ≡ steps.old.0 + work self.now.climbs space) }
-        ensures spent { OnErr result ((space : List LabelOf) → IsSpace self.now.climbs start space → steps.new.0 ≤ steps.old.0 + work self.now.climbs space) }
+        ensures steps { IfOk result (ReadsSpace self.now.climbs steps.old.0 steps.new.0) }
+        ensures spent { OnErr result (IsWithinSpace self.now.climbs start steps.old.0 steps.new.0) }
         ensures asks { steps.new.1 ≡ steps.old.1 }
     {
         climb(alloc, &self.climbing, start, steps)
@@ -178,8 +184,8 @@ impl Levels {
     ) -> Result<Items<Label>, NoMemory>
         requires { start < length self.now.nodes }
         ensures space { IfOk result (IsSpace self.now.falls start) }
-        ensures steps { IfOk result (λ space. steps.new.0 ≡ steps.old.0 + work self.now.falls space) }
-        ensures spent { OnErr result ((space : List LabelOf) → IsSpace self.now.falls start space → steps.new.0 ≤ steps.old.0 + work self.now.falls space) }
+        ensures steps { IfOk result (ReadsSpace self.now.falls steps.old.0 steps.new.0) }
+        ensures spent { OnErr result (IsWithinSpace self.now.falls start steps.old.0 steps.new.0) }
         ensures asks { steps.new.1 ≡ steps.old.1 }
     {
         climb(alloc, &self.falling, start, steps)
@@ -194,7 +200,7 @@ impl Levels {
     ) -> Result<Vec<Rung>, NoMemory>
         requires rising { IsRisingWithin 0 (length self.now.climbs) space.now }
         requires top { top < length space.now }
-        ensures { IfOk result (λ rungs. (start : ℕ) (d : LabelOf) → IsSpace self.now.climbs start space.now → IsWayBack self.now.climbs start (slice_index_or space.now top d) rungs.items) }
+        ensures { IfOk result (λ rungs. IsWayBackFrom self.now.climbs space.now top rungs.items) }
     {
         climb_back(alloc, &self.climbing, space, top)
     }
@@ -208,7 +214,7 @@ impl Levels {
     ) -> Result<Vec<Rung>, NoMemory>
         requires rising { IsRisingWithin 0 (length self.now.falls) space.now }
         requires top { top < length space.now }
-        ensures { IfOk result (λ rungs. (start : ℕ) (d : LabelOf) → IsSpace self.now.falls start space.now → IsWayBack self.now.falls start (slice_index_or space.now top d) rungs.items) }
+        ensures { IfOk result (λ rungs. IsWayBackFrom self.now.falls space.now top rungs.items) }
     {
         climb_back(alloc, &self.falling, space, top)
     }
@@ -259,7 +265,7 @@ impl Levels {
         requires rests { AreRests self.now to space.now rests.now (index + 1) }
         requires down { IsSpace self.now.falls to down.now }
         requires to { to < length self.now.nodes }
-        ensures rest { IfOk result (λ o. (d : LabelOf) → IsLeastTop self.now (slice_index_or space.now index d).place to o) }
+        ensures rest { IfOk result (IsRestAt self.now to space.now index) }
         ensures asks { steps.new.1 ≡ steps.old.1 }
     {
         let place = space[index].place;
@@ -306,7 +312,8 @@ fn labels_by(
     listed: &[(NodeNo, u64)],
 ) -> Result<Vec<Label>, NoMemory>
     requires { AreIn places.now listed.now }
-    ensures { IfOk result (λ labels. labels.items ≡ map (λ n. label_by places.now n) listed.now) }
+    ensures { IfOk result (λ labels.
+        labels.items ≡ map (λ n. label_by places.now n) listed.now) }
 {
     let mut labels = Vec::new(alloc);
     for (node, length) in listed {

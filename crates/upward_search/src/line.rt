@@ -20,7 +20,8 @@ pub(crate) struct Line {
 impl Line {
     /// No roads yet.
     pub(crate) fn begin(alloc: Global, place: u32) -> Result<Line, NoMemory>
-        ensures { IfOk result (λ line. (h : Ladder) → IsLine h place line.roads.items line.run place 0) }
+        ensures { IfOk result (λ line.
+            (h : Ladder) → IsLine h place line.roads.items line.run place 0) }
     {
         let mut roads = Vec::new(alloc);
         roads.push(Label { place, length: 0 })?;
@@ -29,7 +30,10 @@ impl Line {
 
     /// Goes on by a road, and drops a round of length 0 that it ends.
     pub(crate) fn go_on(&mut self, road: Label) -> Result<(), NoMemory>
-        ensures { IfOk result (λ _. (h : Ladder) (p q x : ℕ) → IsLine h p self.old.roads.items self.old.run q x → IsRoadPart h q road.place road.length → IsLine h p self.new.roads.items self.new.run road.place (x + road.length)) }
+        ensures { IfOk result (λ _. (h : Ladder) (p q x : ℕ)
+            → IsLine h p self.old.roads.items self.old.run q x
+            → IsRoadPart h q road.place road.length
+            → IsLine h p self.new.roads.items self.new.run road.place (x + road.length)) }
     {
         if road.length > 0 {
             self.run = self.roads.as_slice().len();

@@ -1,15 +1,15 @@
-ghost use Rattle.std.specs.Prelude.{◌≡◌, ℕ, ◌+◌, ◌<◌, ◌≤◌, ◌^◌, length, Some, MatchOption};
+ghost use Rattle.std.specs.Prelude.{◌≡◌, ◌<◌, ◌^◌, MatchOption};
 ghost use Rattle.upward_search.specs.Climbs.{IsRising};
-ghost use Rattle.upward_search.specs.Sums.{HasNoCommon, IsLeastSum, lesser_of, AreShort};
+ghost use Rattle.upward_search.specs.Sums.{HasNoCommon, IsLeastSum, IsPastBoth, IsPastLeft, IsPastRight, lesser_of, AreShort};
 
 use crate::slope::Label;
 
 /// How far two lists were compared, and the least sum so far.
 #[derive(Clone, Copy)]
-struct Meeting {
-    left: usize,
-    right: usize,
-    least: Option<u64>,
+pub(crate) struct Meeting {
+    pub(crate) left: usize,
+    pub(crate) right: usize,
+    pub(crate) least: Option<u64>,
 }
 
 /// The least sum of the lengths at a place that both lists name. None where there is no such place.
@@ -37,9 +37,9 @@ fn compared(at: Meeting, left: Label, right: Label) -> Meeting
     requires away { at.right < 2 ^ 63 }
     requires short { left.length < 2 ^ 53 }
     requires low { right.length < 2 ^ 53 }
-    ensures same { left.place ≡ right.place → (result.left ≡ at.left + 1) × (result.right ≡ at.right + 1) × (result.least ≡ Some (lesser_of at.least (left.length + right.length))) }
-    ensures left { left.place < right.place → (result.left ≡ at.left + 1) × (result.right ≡ at.right) × (result.least ≡ at.least) }
-    ensures right { right.place < left.place → (result.left ≡ at.left) × (result.right ≡ at.right + 1) × (result.least ≡ at.least) }
+    ensures same { left.place ≡ right.place → IsPastBoth at left right result }
+    ensures left { left.place < right.place → IsPastLeft at result }
+    ensures right { right.place < left.place → IsPastRight at result }
 {
     if left.place < right.place {
         return Meeting {

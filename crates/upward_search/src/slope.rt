@@ -72,7 +72,9 @@ fn part<'a>(bounds: &[usize], arcs: &'a [Arc], place: u32) -> &'a [Arc]
     requires next { place + 1 < length bounds.now }
     requires rises { slice_index bounds.now place ≤ slice_index bounds.now (place + 1) }
     requires inside { slice_index bounds.now (place + 1) ≤ length arcs.now }
-    ensures { result.now ≡ slice_range arcs.now (slice_index bounds.now place) (slice_index bounds.now (place + 1)) }
+    ensures { result.now ≡ slice_range arcs.now
+        (slice_index bounds.now place)
+        (slice_index bounds.now (place + 1)) }
 {
     &arcs[bounds[place as usize]..bounds[place as usize + 1]]
 }

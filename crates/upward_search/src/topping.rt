@@ -11,7 +11,9 @@ pub(crate) fn top_of(left: &[Label], right: &[Label], total: u64) -> Option<(usi
     requires right { IsRising right.now }
     requires short { AreShort left.now }
     requires low { AreShort right.now }
-    ensures { MatchOption result (Common left.now right.now total → ⊥) (IsTopAt left.now right.now total) }
+    ensures { MatchOption result
+        (Common left.now right.now total → ⊥)
+        (IsTopAt left.now right.now total) }
 {
     for index in 0..left.len() {
         if let Some(at) = joint(right, left[index], total) {
@@ -25,7 +27,9 @@ fn joint(right: &[Label], label: Label, total: u64) -> Option<usize>
     requires right { IsRising right.now }
     requires short { label.length < 2 ^ 53 }
     requires low { AreShort right.now }
-    ensures { MatchOption result (LacksJoint right.now label total) (IsJoint right.now label total) }
+    ensures { MatchOption result
+        (LacksJoint right.now label total)
+        (IsJoint right.now label total) }
 {
     let Some(at) = find(right, label.place) else {
         return None;

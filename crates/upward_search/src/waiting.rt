@@ -45,8 +45,10 @@ impl Waiting {
 
     /// Takes the first label.
     fn pop(&mut self) -> Option<Label>
-        ensures none { MatchOption result (self.old ≡ []) (λ taken. IsPermutation self.old (taken ∷ self.new)) }
-        ensures first { MatchOption result (self.new ≡ []) (λ taken. All (IsNoLater taken) self.new) }
+        ensures none { MatchOption result (self.old ≡ [])
+            (λ taken. IsPermutation self.old (taken ∷ self.new)) }
+        ensures first { MatchOption result (self.new ≡ [])
+            (λ taken. All (IsNoLater taken) self.new) }
     {
         let Reverse(first) = self.heap.pop()?;
         Some(first)

@@ -62,7 +62,8 @@ impl Levels {
         mut parts: Vec<Part>,
     ) -> Result<Line, NoMemory>
         requires { AreWaiting self.now from to parts.items }
-        ensures { IfOk result (λ line. IsLineTo self.now from to (parts_length parts.items) line.roads.items line.run) }
+        ensures { IfOk result (λ line.
+            IsLineTo self.now from to (parts_length parts.items) line.roads.items line.run) }
     {
         self.laws();
         let mut line = Line::begin(alloc, from)?;
@@ -90,7 +91,9 @@ impl Levels {
     ) -> Result<Option<Line>, NoMemory>
         requires from { from < length self.now.nodes }
         requires to { to < length self.now.nodes }
-        ensures line { IfOk result (λ found. MatchOption found (IsLeastTop self.now from to None) (λ line. IsLeastLine self.now from to line.roads.items line.run)) }
+        ensures line { IfOk result (λ found. MatchOption found
+            (IsLeastTop self.now from to None)
+            (λ line. IsLeastLine self.now from to line.roads.items line.run)) }
         ensures asks { steps.new.1 ≡ steps.old.1 }
     {
         let left = self.climbed(alloc, from, steps)?;
@@ -122,7 +125,8 @@ impl Levels {
         requires fits { LadderFits graph.now self.now }
         requires from { IsNamed self.now from }
         requires to { IsNamed self.now to }
-        ensures walk { IfOk result (λ found. MatchOption found (NoWalk graph.now from to) (IsLeastWalk graph.now from to)) }
+        ensures walk { IfOk result (λ found.
+            MatchOption found (NoWalk graph.now from to) (IsLeastWalk graph.now from to)) }
         ensures asks { steps.new.1 ≡ steps.old.1 }
     {
         self.laws();
