@@ -8,7 +8,7 @@ use Rattle.road_graph.proofs.WalkLaws.{first_is_node}
 use Rattle.upward_search.specs.declared.arc.RankArc.{RankArc}
 use Rattle.upward_search.specs.Chains.{IsChain}
 use Rattle.upward_search.specs.Fitting.{rank_of, Meets, IsFitting}
-use Rattle.contraction.proofs.Climbing.{meets_at}
+use Rattle.upward_search.proofs.ChainLaws.{meets_at}
 use Rattle.contraction.specs.Removing.{HasChain, IsContracting}
 use Rattle.contraction.proofs.Having.{has_over}
 

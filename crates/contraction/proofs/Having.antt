@@ -4,7 +4,7 @@ use Rattle.road_graph.specs.declared.road.NodeNo.{NodeNo}
 use Rattle.road_graph.proofs.WalkLaws.{same_node}
 use Rattle.upward_search.specs.declared.arc.RankArc.{RankArc}
 use Rattle.upward_search.specs.Chains.{total, IsChain}
-use Rattle.contraction.proofs.Chaining.{chain_none, chain_one, chain_append, chain_rest, chain_kind}
+use Rattle.upward_search.proofs.ChainLaws.{chain_none, chain_one, chain_append, chain_rest, chain_kind}
 use Rattle.contraction.specs.Removing.{HasChain}
 
 pub same_or_not : (u v : NodeNo) → (u ≡ v) ⊎ (u ≢ v)

@@ -1,5 +1,3 @@
-pub mod Chaining
-pub mod Climbing
 pub mod Having
 pub mod Passing
 pub mod Parting

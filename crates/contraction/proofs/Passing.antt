@@ -2,7 +2,7 @@ use Rattle.std.proofs.Common.{◌≡◌, ◌≢◌, ℕ, ◌+◌, ◌<◌, ◌�
 use Rattle.road_graph.specs.declared.road.NodeNo.{NodeNo}
 use Rattle.upward_search.specs.declared.arc.RankArc.{RankArc}
 use Rattle.upward_search.specs.Chains.{total, IsChain}
-use Rattle.contraction.proofs.Chaining.{chain_rest}
+use Rattle.upward_search.proofs.ChainLaws.{chain_rest}
 use Rattle.contraction.specs.Removing.{HasChain, IsOut, IsIn, IsAside}
 use Rattle.contraction.proofs.Having.{same_or_not, has_none, has_one, has_append}
 

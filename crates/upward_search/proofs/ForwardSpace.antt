@@ -15,17 +15,11 @@ use Rattle.upward_search.specs.Fitting.{rank_of}
 use Rattle.upward_search.specs.Hierarchies.{HasRank, node_at, climbing_arc, falling_arc, ranking_of}
 use Rattle.upward_search.specs.Spaces.{AreRisingRanks, AreRankedNodes, IsForwardSpace, IsBackwardSpace, climbing_arcs, falling_arcs}
 use Rattle.upward_search.proofs.RankingOf.{Has, has_in, in_has, has_map, map_has, contains_in, in_contains, arcs_have, node_is, at_node, climb_low, fall_low, climb_chain, fall_chain}
+use Rattle.upward_search.proofs.ChainLaws.{chain_one, chain_append}
 use Rattle.upward_search.proofs.ArcsOut.{climbing_work, falling_work}
 
 same_at : (l : Ladder) (p q : ℕ) (u v : NodeNo) → IsAt l p u → IsAt l q v → p ≡ q → u ≡ v
 same_at l p q u v a b e = let s = ap (slice_get l.nodes) e in cc
-
--- one arc behind others
-chain_push : {Kind : RankArc → Type 0} (chain : List RankArc) (u w v : NodeNo) (x : ℕ) (a : RankArc) → IsChain Kind u w chain x → Kind a → a.from ≡ w → a.to ≡ v → IsChain Kind u v (chain ++ a ∷ []) (x + a.length)
-chain_push {Kind} [] u w v x a c k from to = record { leads = (from ∙ sym c.leads, to); all = (k, tt); sum = (let s = c.sum in omega arith) }
-chain_push {Kind} (b ∷ chain) u w v x a c k from to =
-    let rest = chain_push {Kind = Kind} chain b.to w v (total chain) a (record { leads = c.leads.1; all = c.all.1; sum = refl }) k from to in
-    record { leads = (c.leads.0, rest.leads); all = (c.all.0, rest.all); sum = (let s = c.sum in let r = rest.sum in omega arith) }
 
 -- a list of labels that rise
 rising_next : (low high : ℕ) (rs : List Label) (k : ℕ) → IsRisingWithin low high rs → k + 1 < length (map (λ (r : Label). r.place) rs) → get_or (map (λ (r : Label). r.place) rs) k 0 < get_or (map (λ (r : Label). r.place) rs) (k + 1) 0
@@ -61,7 +55,8 @@ module _ (l : Ladder) (lad : IsLadder l) (apart : AreApart l) (placed : ArePlace
   chain_down (arc ∷ arcs) p q v u c a b =
       let low = fall_low l lad apart p arc c.0 in
       let rest = chain_down arcs arc.to q (node_at l.nodes arc.to) u c.1 (at_node l arc.to low.1) b in
-      let more = chain_push {Kind = Contains (ranking_of l).falling} rest.0 u (node_at l.nodes arc.to) v (climb_length arcs) (falling_arc l.nodes p arc) rest.1 (arcs_have (falling_arc l.nodes) l.falls p arc c.0) refl (node_is l.nodes p v a) in
+      let last = chain_one {Kind = Contains (ranking_of l).falling} (falling_arc l.nodes p arc) (node_at l.nodes arc.to) v (arcs_have (falling_arc l.nodes) l.falls p arc c.0) refl (node_is l.nodes p v a) in
+      let more = chain_append {Kind = Contains (ranking_of l).falling} u (node_at l.nodes arc.to) v rest.0 (climb_length arcs) rest.1 (falling_arc l.nodes p arc ∷ []) arc.length last in
       (rest.0 ++ falling_arc l.nodes p arc ∷ [], record { leads = more.leads; all = more.all; sum = (let s = more.sum in omega arith) })
 
   least_up : (p q : ℕ) (u v : NodeNo) (x : ℕ) → IsAt l p u → IsAt l q v → IsClimbDist l.climbs p q x → IsLeastChain (ranking_of l).climbing u v x

@@ -6,50 +6,15 @@ use Rattle.road_graph.specs.Graphs.{IsGraph}
 use Rattle.road_graph.specs.Walks.{IsWalk, IsDist}
 use Rattle.std.proofs.lemmas.Bool.{cases_lt}
 use Rattle.std.proofs.lemmas.Option.{slice_get_within, slice_get-get_or}
-use Rattle.road_graph.proofs.WalkLaws.{dist_short, alone_is_node}
-use Rattle.road_graph.proofs.WalkLaws.{walk_over}
-use Rattle.road_graph.proofs.WalkLaws.{has_distance}
-use Rattle.road_graph.proofs.WalkLaws.{step_of, ends_are_nodes, test_from_node}
+use Rattle.road_graph.proofs.WalkLaws.{dist_short, walk_after, has_distance}
 use Rattle.upward_search.specs.declared.slope.Arc.{Arc}
 use Rattle.upward_search.specs.declared.slope.Label.{Label}
 use Rattle.upward_search.specs.Rows.{row}
 use Rattle.upward_search.specs.Climbs.{IsIn, IsClimb, climb_length, IsRisingWithin, IsSpace, work}
 use Rattle.upward_search.specs.Sums.{AreShort, Common, HasNoCommon, IsLeastSum}
 use Rattle.upward_search.proofs.IsSearch.{one_work}
+use Rattle.upward_search.proofs.ChainLaws.{HasWalk, walk_none, walk_one}
 use Rattle.upward_search.specs.Ladders.{Ladder, IsLadder, IsAt, IsArcOf, IsTop, IsLeastTop, IsAnswer, LadderFits}
-
--- some walk of this length between two nodes
-pub record Goes (g : Roads) (u v : NodeNo) (x : ℕ) : Type 0 where
-  pub nodes : List NodeNo
-  pub walk : IsWalk g u v nodes x
-
--- a walk after a walk
-after : (g : Roads) (nodes : List NodeNo) (u v w : NodeNo) (x : ℕ) → IsWalk g u v nodes x → (next : List NodeNo) (y : ℕ) → IsWalk g v w next y → Goes g u w (x + y)
-after g [] u v w x a next y b = absurd a.0
-after g (c ∷ []) u v w x a next y b =
-    let z = (alone_is_node g c x a.1).1 in
-    let is : v ≡ u = sym a.0.1 ∙ a.0.0 in
-    let sum : y ≡ x + y = omega arith in
-    record { nodes = next; walk = subst (λ (n : NodeNo). IsWalk g n w next (x + y)) is (subst (IsWalk g v w next) sum b) }
-after g (c ∷ d ∷ more) u v w x a next y b =
-    let s = step_of g c d more x a.1 in
-    let r = after g (d ∷ more) d v w s.rest ((refl, a.0.1), s.walk) next y b in
-    let q = walk_over g c d w s.weight (s.rest + y) s.road r.nodes r.walk in
-    let sum : s.weight + (s.rest + y) ≡ x + y = (let t = s.sum in omega arith) in
-    record { nodes = c ∷ r.nodes; walk = subst (λ (n : NodeNo). IsWalk g n w (c ∷ r.nodes) (x + y)) a.0.0 (q.0, q.1 ∙ ap Some sum) }
-
-join : (g : Roads) (u v w : NodeNo) (x y z : ℕ) → Goes g u v x → Goes g v w y → x + y ≡ z → Goes g u w z
-join g u v w x y z a b e = subst (Goes g u w) e (after g a.nodes u v w x a.walk b.nodes y b.walk)
-
-stays : (g : Roads) (u : NodeNo) → IsNode g u → Goes g u u 0
-stays g u n = record { nodes = u ∷ []; walk = ((refl, refl), ap (λ t. cond t (Some 0) None) (test_from_node g u n)) }
-
-by_road : (g : Roads) → IsGraph g → (u v : NodeNo) (w : ℕ) → least_weight g.roads u v ≡ Some w → Goes g u v w
-by_road g lawful u v w e =
-    let s = stays g v (ends_are_nodes g lawful u v w e).1 in
-    let q = walk_over g u v v w 0 e s.nodes s.walk in
-    let sum : w + 0 ≡ w = omega arith in
-    record { nodes = u ∷ s.nodes; walk = (q.0, q.1 ∙ ap Some sum) }
 
 same_at : (h : Ladder) (p q : ℕ) (u v : NodeNo) → IsAt h p u → IsAt h q v → p ≡ q → u ≡ v
 same_at h p q u v a b e = let s = ap (slice_get h.nodes) e in cc
@@ -66,38 +31,38 @@ fall_is : (g : Roads) (h : Ladder) → LadderFits g h → IsLadder h → (p : �
 fall_is g h f l p a i = ⊎_elim (λ lt. inr (l.falls_over p a i lt)) (λ le. inl (f.falling p a i le)) (cases_lt a.middle p)
 
 -- each arc is as long as some walk
-arc_goes : (g : Roads) (h : Ladder) → LadderFits g h → IsLadder h → (n from to length middle : ℕ) → (from < n) ⊎ (to < n) → IsArcOf g h from to length middle → (u v : NodeNo) → IsAt h from u → IsAt h to v → Goes g u v length
+arc_goes : (g : Roads) (h : Ladder) → LadderFits g h → IsLadder h → (n from to length middle : ℕ) → (from < n) ⊎ (to < n) → IsArcOf g h from to length middle → (u v : NodeNo) → IsAt h from u → IsAt h to v → HasWalk g u v length
 arc_goes g h f l zero from to length middle low arc u v a b = absurd (⊎_elim (λ l. omega arith) (λ l. omega arith) low)
 arc_goes g h f l (suc n) from to length k low (inl arc) u v a b =
     let e : arc.u ≡ u = same_at h from from arc.u u arc.starts a refl in
     let e' : arc.v ≡ v = same_at h to to arc.v v arc.ends b refl in
-    by_road g f.graph u v length (subst (λ (n : NodeNo). least_weight g.roads u n ≡ Some length) e' (subst (λ (n : NodeNo). least_weight g.roads n arc.v ≡ Some length) e arc.weight))
+    walk_one g f.graph u v length (subst (λ (n : NodeNo). least_weight g.roads u n ≡ Some length) e' (subst (λ (n : NodeNo). least_weight g.roads n arc.v ≡ Some length) e arc.weight))
 arc_goes g h f l (suc n) from to length k low (inr arc) u v a b =
     let below : k < n = (let o = arc.lower in let m = arc.below in ⊎_elim (λ l. omega arith) (λ l. omega arith) low) in
     let w = node_at h k (let o = arc.lower in let m = slice_get_within h.nodes from u a in omega arith) in
     let fall = arc_goes g h f l n arc.fall.to k arc.fall.length arc.fall.middle (inr below) (fall_is g h f l k arc.fall arc.falls) u w.0 (subst (λ p. IsAt h p u) (sym arc.starts) a) w.1 in
     let climb = arc_goes g h f l n k arc.climb.to arc.climb.length arc.climb.middle (inl below) (climb_is g h f l k arc.climb arc.climbs) w.0 v w.1 (subst (λ p. IsAt h p v) (sym arc.ends) b) in
-    join g u w.0 v arc.fall.length arc.climb.length length fall climb arc.sum
+    subst (HasWalk g u v) arc.sum (walk_after g fall.0 u w.0 v arc.fall.length fall.1 climb.0 arc.climb.length climb.1)
 
-climb_goes : (g : Roads) (h : Ladder) → LadderFits g h → IsLadder h → (arcs : List Arc) (p q : ℕ) → IsClimb h.climbs p q arcs → (u v : NodeNo) → IsAt h p u → IsAt h q v → Goes g u v (climb_length arcs)
-climb_goes g h f l [] p q c u v a b = subst (λ (n : NodeNo). Goes g u n 0) (same_at h p q u v a b c) (stays g u (f.nodes p u a))
+climb_goes : (g : Roads) (h : Ladder) → LadderFits g h → IsLadder h → (arcs : List Arc) (p q : ℕ) → IsClimb h.climbs p q arcs → (u v : NodeNo) → IsAt h p u → IsAt h q v → HasWalk g u v (climb_length arcs)
+climb_goes g h f l [] p q c u v a b = subst (λ (n : NodeNo). HasWalk g u n 0) (same_at h p q u v a b c) (walk_none g u (f.nodes p u a))
 climb_goes g h f l (arc ∷ arcs) p q c u v a b =
     let i = c.0 in
     let up = l.climbs_up.up p i.0 arc i.1 in
     let w = node_at h arc.to (let m = l.climbs_many in let t = up.1 in omega arith) in
     let first = arc_goes g h f l (suc p) p arc.to arc.length arc.middle (inl (omega arith)) (climb_is g h f l p arc i) u w.0 a w.1 in
     let rest = climb_goes g h f l arcs arc.to q c.1 w.0 v w.1 b in
-    join g u w.0 v arc.length (climb_length arcs) (climb_length (arc ∷ arcs)) first rest refl
+    walk_after g first.0 u w.0 v arc.length first.1 rest.0 (climb_length arcs) rest.1
 
-fall_goes : (g : Roads) (h : Ladder) → LadderFits g h → IsLadder h → (arcs : List Arc) (p q : ℕ) → IsClimb h.falls p q arcs → (u v : NodeNo) → IsAt h p u → IsAt h q v → Goes g v u (climb_length arcs)
-fall_goes g h f l [] p q c u v a b = subst (λ (n : NodeNo). Goes g n u 0) (same_at h p q u v a b c) (stays g u (f.nodes p u a))
+fall_goes : (g : Roads) (h : Ladder) → LadderFits g h → IsLadder h → (arcs : List Arc) (p q : ℕ) → IsClimb h.falls p q arcs → (u v : NodeNo) → IsAt h p u → IsAt h q v → HasWalk g v u (climb_length arcs)
+fall_goes g h f l [] p q c u v a b = subst (λ (n : NodeNo). HasWalk g n u 0) (same_at h p q u v a b c) (walk_none g u (f.nodes p u a))
 fall_goes g h f l (arc ∷ arcs) p q c u v a b =
     let i = c.0 in
     let up = l.falls_up.up p i.0 arc i.1 in
     let w = node_at h arc.to (let m = l.falls_many in let t = up.1 in omega arith) in
     let last = arc_goes g h f l (suc p) arc.to p arc.length arc.middle (inr (omega arith)) (fall_is g h f l p arc i) w.0 u w.1 a in
     let rest = fall_goes g h f l arcs arc.to q c.1 w.0 v w.1 b in
-    join g v w.0 u (climb_length arcs) arc.length (climb_length (arc ∷ arcs)) rest last (omega arith)
+    subst (HasWalk g v u) (omega arith) (walk_after g rest.0 v w.0 u (climb_length arcs) rest.1 last.0 arc.length last.1)
 
 pub below_high : (low high : ℕ) (space : List Label) (t : Label) (k : ℕ) → IsRisingWithin low high space → slice_get space k ≡ Some t → t.place < high
 below_high low high [] t k h e = cc
@@ -140,12 +105,12 @@ least_top h p q left right s t o m = at o m
         below x top (inr le) = inr le
 
 module _ (g : Roads) (h : Ladder) (f : LadderFits g h) (l : IsLadder h) (p q : ℕ) (u v : NodeNo) (a : IsAt h p u) (b : IsAt h q v) where
-  top_goes : (x : ℕ) → IsTop h p q x → Goes g u v x
+  top_goes : (x : ℕ) → IsTop h p q x → HasWalk g u v x
   top_goes x t =
       let w = node_at h t.top (within t.down q (slice_get_within h.nodes q v b) t.falls) in
       let up = climb_goes g h f l t.up p t.top t.climbs u w.0 a w.1 in
       let down = fall_goes g h f l t.down q t.top t.falls v w.0 b w.1 in
-      join g u w.0 v (climb_length t.up) (climb_length t.down) x up down t.sum
+      subst (HasWalk g u v) t.sum (walk_after g up.0 u w.0 v (climb_length t.up) up.1 down.0 (climb_length t.down) down.1)
     where
       within : (arcs : List Arc) (from : ℕ) → from < length h.nodes → IsClimb h.falls from t.top arcs → t.top < length h.nodes
       within [] from low c = omega arith
@@ -160,7 +125,7 @@ module _ (g : Roads) (h : Ladder) (f : LadderFits g h) (l : IsLadder h) (p q : �
       absurd (omega arith)
   answer_is (Some x) (reached, least) =
       let w = top_goes x reached in
-      record { reached = (w.nodes, w.walk); least = λ nodes y walk. bound (has_distance g f.graph u v nodes y walk) }
+      record { reached = w; least = λ nodes y walk. bound (has_distance g f.graph u v nodes y walk) }
     where
       bound : {y : ℕ} → (z : ℕ) × IsDist g u v z × (z ≤ y) → x ≤ y
       bound {y} (z, d, le) = at (least z (f.covers p q u v z a b d))

@@ -1,4 +1,5 @@
 mod IsNoLater
+pub mod ChainLaws
 mod Lists
 mod RowsOf
 mod IsSearch
