@@ -171,11 +171,13 @@ fn check_spaces(
         None => return Err("no label".into()),
     }
     let back = hierarchy.backward_space(alloc, FOUR, steps)?;
+    let rests = hierarchy.rest_from(alloc, &back, ONE, steps)?;
     let listed = back.as_slice();
     match place_of(listed, FOUR) {
         Some(k) => {
-            assert!(rt; k < listed.len());
+            assert!(rt; k < listed.len() && k < rests.len());
             assert_eq!(rt; listed[k].1, 0);
+            assert_eq!(rt; rests.as_slice()[k], Some(30));
         }
         None => return Err("no label".into()),
     }

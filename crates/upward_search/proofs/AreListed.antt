@@ -4,12 +4,13 @@ use Rattle.std.proofs.lemmas.List.{take_more, take_all}
 use Rattle.std.proofs.lemmas.Option.{slice_get-get_or}
 use Rattle.road_graph.specs.declared.road.NodeNo.{NodeNo}
 use Rattle.upward_search.specs.declared.slope.Label.{Label}
-use Rattle.upward_search.specs.Ladders.{Ladder, IsLadder, IsAt, AreApart, ArePlaces, LadderFits}
+use Rattle.upward_search.specs.Ladders.{Ladder, IsLadder, IsAt, AreApart, ArePlaces, LadderFits, faced}
 use Rattle.upward_search.specs.Rests.{AreRests}
 use Rattle.road_graph.specs.Roads.{Roads}
-use Rattle.upward_search.proofs.LadderFits.{answer_is}
+use Rattle.upward_search.specs.declared.way.Way.{Way}
+use Rattle.upward_search.proofs.FacedLadder.{answer_by}
 use Rattle.std.specs.Global.{Global}
-use Rattle.upward_search.specs.Names.{AreListed, AreRising, AreRestsTo, label_by, AreIn}
+use Rattle.upward_search.specs.Names.{AreListed, AreRising, AreRestsBy, label_by, AreIn}
 
 listed_push : (nodes : List NodeNo) (rs : List Label) (ns : List (NodeNo × ℕ)) (r : Label) (n : NodeNo × ℕ) → AreListed nodes rs ns → slice_get nodes r.place ≡ Some n.0 → n.1 ≡ r.length → AreListed nodes (rs ++ r ∷ []) (ns ++ n ∷ [])
 listed_push nodes [] [] r n l a e = (a, e, tt)
@@ -56,14 +57,14 @@ listed_many nodes [] (m ∷ ns) l = absurd l
 listed_many nodes (s ∷ rs) [] l = absurd l
 listed_many nodes (s ∷ rs) (m ∷ ns) l = ap suc (listed_many nodes rs ns l.2)
 
-pub rests_to : (h : Ladder) → IsLadder h → (q : ℕ) (to : NodeNo) → IsAt h q to → (labels read : List Label) → read ≡ labels → (listed seen : List (NodeNo × ℕ)) → seen ≡ listed → AreListed h.nodes labels seen → {E : Type 0} (r : Result (Vec (Option ℕ) Global) E)
-    → IfOk r (λ rests. AreRests h q read rests.items 0) → IfOk r (λ rests. (g : Roads) → LadderFits g h → AreRestsTo g listed to rests.items)
-rests_to h l q to at labels read e listed seen e' are (Err x) k = k
-rests_to h l q to at labels read e listed seen e' are (Ok rests) k = λ g f. record {
+pub rests_said : (way : Way) (h : Ladder) → IsLadder h → (q : ℕ) (to : NodeNo) → IsAt h q to → (labels read : List Label) → read ≡ labels → (listed seen : List (NodeNo × ℕ)) → seen ≡ listed → AreListed h.nodes labels seen → {E : Type 0} (r : Result (Vec (Option ℕ) Global) E)
+    → IfOk r (λ rests. AreRests (faced way h) q read rests.items 0) → IfOk r (λ rests. (g : Roads) → LadderFits g h → AreRestsBy way g listed to rests.items)
+rests_said way h l q to at labels read e listed seen e' are (Err x) k = k
+rests_said way h l q to at labels read e listed seen e' are (Ok rests) k = λ g f. record {
   many = (let m = k.many in let a = ap length e in let b = listed_many h.nodes labels seen are in let c = ap length e' in omega arith);
   each = λ i n x s. (
       let t = label_of h.nodes labels seen i (n, x) are (ap (λ (ns : List (NodeNo × ℕ)). slice_get ns i) e' ∙ s) in
-      answer_is g h f l t.0.place q n to t.2 at (get_or rests.items i None) (k.each i t.0 (omega arith) (ap (λ (rs : List Label). slice_get rs i) e ∙ t.1)));
+      answer_by way g h f l t.0.place q n to t.2 at (get_or rests.items i None) (k.each i t.0 (omega arith) (ap (λ (rs : List Label). slice_get rs i) e ∙ t.1)));
 }
 
 pub listed_inside : (h : Ladder) (nodes : List NodeNo) (places read : List ℕ) → read ≡ places → nodes ≡ h.nodes → ArePlaces nodes places → (listed : List (NodeNo × ℕ)) (r : AreRising h listed) → AreIn read listed

@@ -10,7 +10,7 @@ use Rattle.upward_search.specs.declared.slope.Label.{Label}
 use Rattle.upward_search.specs.Climbs.{IsIn, IsClimb, climb_length, IsClimbDist, IsRisingWithin, IsSpace, work}
 use Rattle.upward_search.specs.Ladders.{Ladder, IsLadder, IsAt, AreApart, ArePlaces}
 use Rattle.upward_search.specs.Names.{AreListed, AreRising, label_by}
-use Rattle.upward_search.specs.Chains.{total, IsChain, IsLeastChain}
+use Rattle.upward_search.specs.Chains.{IsChain, IsLeastChain}
 use Rattle.upward_search.specs.Fitting.{rank_of}
 use Rattle.upward_search.specs.Hierarchies.{HasRank, node_at, climbing_arc, falling_arc, ranking_of}
 use Rattle.upward_search.specs.Spaces.{AreRisingRanks, AreRankedNodes, IsForwardSpace, IsBackwardSpace, climbing_arcs, falling_arcs}

@@ -1,9 +1,8 @@
-use Rattle.std.proofs.Common.{◌≡◌, ℕ, zero, suc, ◌+◌, ◌<◌, ◌≤◌, ◌^◌, ◌⊎◌, inl, inr, ⊎_elim, List, [], ◌∷◌, length, get_or, cond, Option, Some, None, sym, ap, ◌∙◌, arith, refl, subst}
+use Rattle.std.proofs.Common.{◌≡◌, ℕ, zero, suc, ◌+◌, ◌<◌, ◌≤◌, ◌^◌, ◌⊎◌, inl, inr, ⊎_elim, List, [], ◌∷◌, length, get_or, Option, Some, None, sym, ap, ◌∙◌, arith, refl, subst}
 use Rattle.std.specs.Prelude.{slice_get, MatchOption, Result, Ok, Err, IfOk}
 use Rattle.road_graph.specs.declared.road.NodeNo.{NodeNo}
-use Rattle.road_graph.specs.Roads.{Roads, IsNode, least_weight}
-use Rattle.road_graph.specs.Graphs.{IsGraph}
-use Rattle.road_graph.specs.Walks.{IsWalk, IsDist}
+use Rattle.road_graph.specs.Roads.{Roads, least_weight}
+use Rattle.road_graph.specs.Walks.{IsDist}
 use Rattle.std.proofs.lemmas.Bool.{cases_lt}
 use Rattle.std.proofs.lemmas.Option.{slice_get_within, slice_get-get_or}
 use Rattle.road_graph.proofs.WalkLaws.{dist_short, walk_after, has_distance}
@@ -160,6 +159,3 @@ module _ (h : Ladder) (climbs falls : List (List Arc)) (e : climbs ≡ h.climbs)
       let z : work climbs l ≡ work h.climbs l = ap (λ (rows : List (List Arc)). work rows l) e in
       let w : work falls r ≡ work h.falls r = ap (λ (rows : List (List Arc)). work rows r) e' in
       omega arith
-
-pub first_work : (h : Ladder) (climbs : List (List Arc)) → climbs ≡ h.climbs → (p : ℕ) (l : List Label) → IsSpace climbs p l → (left : List Label) → IsSpace h.climbs p left → work climbs l ≡ work h.climbs left
-first_work h climbs e p l s left a = ap (λ (rows : List (List Arc)). work rows l) e ∙ one_work h.climbs p l left (subst (λ (rows : List (List Arc)). IsSpace rows p l) e s) a

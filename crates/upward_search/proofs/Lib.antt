@@ -5,6 +5,7 @@ mod RowsOf
 mod IsSearch
 mod LeastSum
 mod LadderFits
+mod FacedLadder
 mod HasPlaceAt
 mod AreRests
 mod IsUnpacking

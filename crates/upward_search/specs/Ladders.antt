@@ -4,6 +4,8 @@ use Rattle.road_graph.specs.Roads.{Roads, IsNode, least_weight}
 use Rattle.road_graph.specs.Graphs.{IsGraph}
 use Rattle.road_graph.specs.Walks.{IsDist, NoWalk}
 use Rattle.upward_search.specs.declared.slope.Arc.{Arc}
+use Rattle.upward_search.specs.declared.way.Way.{Way}
+use Rattle.upward_search.specs.declared.way.Way.TheVariants.{From, To}
 use Rattle.upward_search.specs.declared.slope.Label.{Label}
 use Rattle.upward_search.specs.Rows.{row, IsUpward}
 use Rattle.upward_search.specs.Climbs.{IsIn, IsClimb, climb_length, IsSpace, work}
@@ -15,6 +17,19 @@ pub record Ladder : Type 0 where
   pub places : List ℕ
   pub climbs : List (List Arc)
   pub falls : List (List Arc)
+
+-- the arcs that a search follows, each at its lower end
+abbrev pub climbs_by : Way → Ladder → List (List Arc)
+climbs_by From h = h.climbs
+climbs_by To h = h.falls
+
+abbrev pub turned : Way → Way
+turned From = To
+turned To = From
+
+-- the ladder as a search meets it: as it is, or with falling arcs for climbing ones and these for those
+abbrev pub faced : Way → Ladder → Ladder
+faced way h = record { nodes = h.nodes; places = h.places; climbs = climbs_by way h; falls = climbs_by (turned way) h }
 
 abbrev pub IsAt : Ladder → ℕ → NodeNo → Type 0
 IsAt h p n = slice_get h.nodes p ≡ Some n
@@ -98,3 +113,8 @@ AreApart h = (p q : ℕ) (n : NodeNo) → IsAt h p n → IsAt h q n → p ≡ q
 abbrev pub IsAnswer : Roads → NodeNo → NodeNo → Option ℕ → Type 0
 IsAnswer g u v None = NoWalk g u v
 IsAnswer g u v (Some x) = IsDist g u v x
+
+-- the same from a node, or to it
+abbrev pub IsAnswerBy : Way → Roads → NodeNo → NodeNo → Option ℕ → Type 0
+IsAnswerBy From g u v found = IsAnswer g u v found
+IsAnswerBy To g u v found = IsAnswer g v u found

@@ -2,8 +2,9 @@ use Rattle.std.specs.Prelude.{◌≡◌, ℕ, ◌<◌, List, [], ◌∷◌, leng
 use Rattle.road_graph.specs.declared.road.NodeNo.{NodeNo}
 use Rattle.road_graph.specs.Roads.{Roads}
 use Rattle.upward_search.specs.declared.slope.Label.{Label}
+use Rattle.upward_search.specs.declared.way.Way.{Way}
 use Rattle.upward_search.specs.Climbs.{IsIn, IsRisingWithin}
-use Rattle.upward_search.specs.Ladders.{Ladder, IsAnswer}
+use Rattle.upward_search.specs.Ladders.{Ladder, IsAnswerBy}
 
 -- the nodes at the places of a list, one by one
 abbrev pub AreNamed : List NodeNo → List Label → List NodeNo → Type 0
@@ -25,10 +26,10 @@ pub record AreRising (h : Ladder) (listed : List (NodeNo × ℕ)) : Type 0 where
   pub are : AreListed h.nodes labels listed
   pub rise : IsRisingWithin 0 (length h.nodes) labels
 
--- the distance from each node to a node
-pub record AreRestsTo (g : Roads) (listed : List (NodeNo × ℕ)) (to : NodeNo) (rests : List (Option ℕ)) : Type 0 where
+-- the distance from each listed node to a node, or from that node to each of them
+pub record AreRestsBy (way : Way) (g : Roads) (listed : List (NodeNo × ℕ)) (node : NodeNo) (rests : List (Option ℕ)) : Type 0 where
   pub many : length rests ≡ length listed
-  pub each : (k : ℕ) (n : NodeNo) (x : ℕ) → slice_get listed k ≡ Some (n, x) → IsAnswer g n to (slice_index_or rests k None)
+  pub each : (k : ℕ) (n : NodeNo) (x : ℕ) → slice_get listed k ≡ Some (n, x) → IsAnswerBy way g n node (slice_index_or rests k None)
 
 -- the label that a listed node has by the places
 abbrev pub label_by : List ℕ → NodeNo × ℕ → Label

@@ -5,9 +5,10 @@ use Rattle.road_graph.specs.Limits.{far}
 use Rattle.road_graph.specs.Roads.{Roads, node}
 use Rattle.road_graph.specs.Graphs.{IsGraph}
 use Rattle.upward_search.specs.declared.arc.RankArc.{RankArc}
+use Rattle.upward_search.specs.declared.way.Way.TheVariants.{From, To}
 use Rattle.upward_search.specs.Chains.{IsChain, IsLeastChain}
 use Rattle.upward_search.specs.Fitting.{rank_of, line_climbing, line_falling, line_ranks}
-use Rattle.upward_search.specs.Names.{AreRestsTo}
+use Rattle.upward_search.specs.Names.{AreRestsBy}
 use Rattle.upward_search.specs.Hierarchies.{Ranking, Fits, HasRank}
 
 -- each node of a space ranks below the next
@@ -76,8 +77,12 @@ abbrev pub IsWithinBoth : Ranking → NodeNo → NodeNo → ℕ → ℕ → Type
 IsWithinBoth h from to old new = (there back : List (NodeNo × ℕ)) → AreSpaces h from to there back → new ≤ old + both_arcs h there back
 
 -- on each graph that the hierarchy fits these are the distances from the nodes of a space to a node
-abbrev pub AreRestsOn : Ranking → List (NodeNo × ℕ) → NodeNo → List (Option ℕ) → Type 0
-AreRestsOn h space to rests = (g : Roads) → IsGraph g → Fits g h → AreRestsTo g space to rests
+abbrev pub AreRestsTo : Ranking → List (NodeNo × ℕ) → NodeNo → List (Option ℕ) → Type 0
+AreRestsTo h space to rests = (g : Roads) → IsGraph g → Fits g h → AreRestsBy From g space to rests
+
+-- and these those from a node to them
+abbrev pub AreRestsFrom : Ranking → List (NodeNo × ℕ) → NodeNo → List (Option ℕ) → Type 0
+AreRestsFrom h space from rests = (g : Roads) → IsGraph g → Fits g h → AreRestsBy To g space from rests
 
 -- the line of four nodes, on which the space of 2 is 2, 3, 1 and 4
 abbrev pub line_hierarchy : Ranking

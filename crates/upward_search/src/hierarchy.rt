@@ -2,13 +2,14 @@ ghost use Rattle.std.specs.Prelude.{◌≡◌, ◌+◌, length, IfOk, OnErr, Mat
 ghost use Rattle.road_graph.specs.Walks.{IsLeastWalk, NoWalk};
 ghost use Rattle.upward_search.specs.Fitting.{IsFitting};
 ghost use Rattle.upward_search.specs.Hierarchies.{Fits, HasRank, HasAsMany, IsDistanceOn};
-ghost use Rattle.upward_search.specs.Spaces.{AreRankedNodes, AreRestsOn, IsForwardSpace, IsBackwardSpace, ReadsForward, ReadsBackward, IsWithinForward, IsWithinBackward, ReadsBoth, IsWithinBoth};
+ghost use Rattle.upward_search.specs.Spaces.{AreRankedNodes, AreRestsTo, AreRestsFrom, IsForwardSpace, IsBackwardSpace, ReadsForward, ReadsBackward, IsWithinForward, IsWithinBackward, ReadsBoth, IsWithinBoth};
 
 use crate::arc::RankArc;
 use crate::levels::Levels;
 use crate::order::{climbing_rungs, falling_rungs, nodes_by_rank, places_of};
 use crate::sorting::sorted;
 use crate::space::Space;
+use crate::way::Way;
 use ride_base::{Items, NoMemory};
 use road_graph::{Graph, NodeNo, Steps, Walk};
 use std::alloc::Global;
@@ -83,7 +84,7 @@ impl Hierarchy {
     {
         self.levels.laws();
         let place = self.levels.place(node);
-        let labels = self.levels.climbed(alloc, place, steps)?;
+        let labels = self.levels.climbed(alloc, Way::From, place, steps)?;
         let listed = self.levels.listed(alloc, labels.as_slice())?;
         Ok(Space { listed })
     }
@@ -104,7 +105,7 @@ impl Hierarchy {
     {
         self.levels.laws();
         let place = self.levels.place(node);
-        let labels = self.levels.fallen(alloc, place, steps)?;
+        let labels = self.levels.climbed(alloc, Way::To, place, steps)?;
         let listed = self.levels.listed(alloc, labels.as_slice())?;
         Ok(Space { listed })
     }
@@ -128,7 +129,7 @@ impl Hierarchy {
         self.levels.laws();
         let start = self.levels.place(from);
         let end = self.levels.place(to);
-        self.levels.between(alloc, start, end, steps)
+        self.levels.between(alloc, Way::From, start, end, steps)
     }
 
     /// The distance from each node of a space of this hierarchy to a node, in the order of the space. None where there is no walk. Nothing is
@@ -142,11 +143,30 @@ impl Hierarchy {
     ) -> Result<Items<Option<u64>>, NoMemory>
         requires space { AreRankedNodes self.now space.now }
         requires to { HasRank self.now to }
-        ensures rests { IfOk result (AreRestsOn self.now space.now to) }
+        ensures rests { IfOk result (AreRestsTo self.now space.now to) }
         ensures asks { steps.new.1 ≡ steps.old.1 }
     {
         self.levels.laws();
-        let rests = self.levels.rest_to(alloc, space, to, steps)?;
+        let rests = self.levels.rests_by(alloc, Way::From, space, to, steps)?;
+        Ok(Items::from_vec(rests))
+    }
+
+    /// The distance from a node to each node of a space of this hierarchy, in the order of the space. None where there is no walk. Nothing is
+    /// left after an error.
+    pub fn rest_from<L>(
+        &self,
+        alloc: Global,
+        space: &Space,
+        from: NodeNo,
+        steps: &mut Steps<L>,
+    ) -> Result<Items<Option<u64>>, NoMemory>
+        requires space { AreRankedNodes self.now space.now }
+        requires from { HasRank self.now from }
+        ensures rests { IfOk result (AreRestsFrom self.now space.now from) }
+        ensures asks { steps.new.1 ≡ steps.old.1 }
+    {
+        self.levels.laws();
+        let rests = self.levels.rests_by(alloc, Way::To, space, from, steps)?;
         Ok(Items::from_vec(rests))
     }
 

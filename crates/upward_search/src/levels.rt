@@ -5,9 +5,9 @@ ghost use Rattle.upward_search.specs.Climbs.{IsIn, IsRisingWithin, IsSpace, Read
 ghost use Rattle.upward_search.specs.Rows.{row as row_at};
 ghost use Rattle.upward_search.specs.WaysBack.{IsWayBackFrom};
 ghost use Rattle.upward_search.specs.Rests.{AreRests, IsRestAt, IsOverArc};
-ghost use Rattle.upward_search.specs.Ladders.{IsLeastTop, ReadsTwoSpaces, IsWithinTwoSpaces, IsNamed, IsAt, IsLadder, AreApart, ArePlaces, LadderFits};
+ghost use Rattle.upward_search.specs.Ladders.{climbs_by, faced, IsLeastTop, ReadsTwoSpaces, IsWithinTwoSpaces, IsNamed, IsAt, IsLadder, AreApart, ArePlaces, LadderFits};
 ghost use Rattle.upward_search.specs.Rows.{count_rows};
-ghost use Rattle.upward_search.specs.Names.{AreListed, AreRising, AreRestsTo, AreIn, label_by, AreNamed};
+ghost use Rattle.upward_search.specs.Names.{AreListed, AreRising, AreRestsBy, AreIn, label_by, AreNamed};
 
 use crate::backing::{Rung, climb_back};
 use crate::climbing::climb;
@@ -16,6 +16,7 @@ use crate::meeting::{least_sum, lesser};
 use crate::slope::{Arc, Label, Slopes};
 use crate::space::Space;
 use crate::walking::nodes_at;
+use crate::way::Way;
 use ride_base::{Items, NoMemory};
 use road_graph::{FAR, NodeNo, Steps};
 use std::alloc::Global;
@@ -46,22 +47,23 @@ impl Model for Levels {
 }
 
 impl Levels {
-    /// The distance from each node of a space to a node.
-    pub(crate) fn rest_to<L>(
+    /// The distance from each node of a space to a node, or from that node to each of them.
+    pub(crate) fn rests_by<L>(
         &self,
         alloc: Global,
+        way: Way,
         space: &Space,
-        to: NodeNo,
+        node: NodeNo,
         steps: &mut Steps<L>,
     ) -> Result<Vec<Option<u64>>, NoMemory>
         requires rises { AreRising self.now space.now }
-        requires to { IsNamed self.now to }
+        requires node { IsNamed self.now node }
         ensures rests { IfOk result (λ rests.
-            (g : Roads) → LadderFits g self.now → AreRestsTo g space.now to rests.items) }
+            (g : Roads) → LadderFits g self.now → AreRestsBy way g space.now node rests.items) }
         ensures asks { steps.new.1 ≡ steps.old.1 }
     {
         let labels = self.labels(alloc, space.as_slice())?;
-        self.rests(alloc, labels.as_slice(), self.place(to), steps)
+        self.rests(alloc, way, labels.as_slice(), self.place(node), steps)
     }
 
     /// The labels of listed nodes.
@@ -101,41 +103,47 @@ impl Levels {
         self.places.as_slice()[node.0 as usize]
     }
 
-    /// The climbing arcs from a place.
-    pub(crate) fn row(&self, place: u32) -> &[Arc]
-        requires { place < length self.now.nodes }
-        ensures row { result.now ≡ row_at self.now.climbs place }
+    /// The arcs that a search follows.
+    fn slopes(&self, way: Way) -> &Slopes
+        ensures arcs { result.now ≡ climbs_by way self.now }
+        ensures many { length result.now ≡ length self.now.nodes }
         ensures ladder { IsLadder self.now }
     {
-        self.climbing.row(place)
+        match way {
+            Way::From => &self.climbing,
+            Way::To => &self.falling,
+        }
     }
 
-    /// The falling arcs into a place.
-    pub(crate) fn falling_row(&self, place: u32) -> &[Arc]
+    /// The climbing arcs from a place, or the falling arcs into it.
+    pub(crate) fn row(&self, way: Way, place: u32) -> &[Arc]
         requires { place < length self.now.nodes }
-        ensures row { result.now ≡ row_at self.now.falls place }
+        ensures row { result.now ≡ row_at (climbs_by way self.now) place }
         ensures ladder { IsLadder self.now }
     {
-        self.falling.row(place)
+        self.slopes(way).row(place)
     }
 
-    /// The least length over a higher place.
+    /// The least length over a higher place from the first of two places to the second, or the other way round.
     pub(crate) fn between<L>(
         &self,
         alloc: Global,
+        way: Way,
         from: u32,
         to: u32,
         steps: &mut Steps<L>,
     ) -> Result<Option<u64>, NoMemory>
         requires from { from < length self.now.nodes }
         requires to { to < length self.now.nodes }
-        ensures least { IfOk result (IsLeastTop self.now from to) }
-        ensures steps { IfOk result (λ _. ReadsTwoSpaces self.now from to steps.old.0 steps.new.0) }
-        ensures spent { OnErr result (IsWithinTwoSpaces self.now from to steps.old.0 steps.new.0) }
+        ensures least { IfOk result (IsLeastTop (faced way self.now) from to) }
+        ensures steps { IfOk result
+            (λ _. ReadsTwoSpaces (faced way self.now) from to steps.old.0 steps.new.0) }
+        ensures spent { OnErr result
+            (IsWithinTwoSpaces (faced way self.now) from to steps.old.0 steps.new.0) }
         ensures asks { steps.new.1 ≡ steps.old.1 }
     {
-        let left = climb(alloc, &self.climbing, from, steps)?;
-        let right = climb(alloc, &self.falling, to, steps)?;
+        let left = self.climbed(alloc, way, from, steps)?;
+        let right = self.climbed(alloc, way.turned(), to, steps)?;
         Ok(least_sum(left.as_slice(), right.as_slice()))
     }
 
@@ -159,84 +167,62 @@ impl Levels {
         listed_nodes(alloc, self.nodes.as_slice(), labels)
     }
 
-    /// The space of a place along climbing arcs.
+    /// The space of a place, by the arcs that a search follows.
     pub(crate) fn climbed<L>(
         &self,
         alloc: Global,
+        way: Way,
         start: u32,
         steps: &mut Steps<L>,
     ) -> Result<Items<Label>, NoMemory>
         requires { start < length self.now.nodes }
-        ensures space { IfOk result (IsSpace self.now.climbs start) }
-        ensures steps { IfOk result (ReadsSpace self.now.climbs steps.old.0 steps.new.0) }
-        ensures spent { OnErr result (IsWithinSpace self.now.climbs start steps.old.0 steps.new.0) }
+        ensures space { IfOk result (IsSpace (climbs_by way self.now) start) }
+        ensures steps { IfOk result
+            (ReadsSpace (climbs_by way self.now) steps.old.0 steps.new.0) }
+        ensures spent { OnErr result
+            (IsWithinSpace (climbs_by way self.now) start steps.old.0 steps.new.0) }
         ensures asks { steps.new.1 ≡ steps.old.1 }
     {
-        climb(alloc, &self.climbing, start, steps)
+        climb(alloc, self.slopes(way), start, steps)
     }
 
-    /// The space of a place against falling arcs.
-    pub(crate) fn fallen<L>(
-        &self,
-        alloc: Global,
-        start: u32,
-        steps: &mut Steps<L>,
-    ) -> Result<Items<Label>, NoMemory>
-        requires { start < length self.now.nodes }
-        ensures space { IfOk result (IsSpace self.now.falls start) }
-        ensures steps { IfOk result (ReadsSpace self.now.falls steps.old.0 steps.new.0) }
-        ensures spent { OnErr result (IsWithinSpace self.now.falls start steps.old.0 steps.new.0) }
-        ensures asks { steps.new.1 ≡ steps.old.1 }
-    {
-        climb(alloc, &self.falling, start, steps)
-    }
-
-    /// The climbing arcs of a least way to a label of a space.
+    /// The arcs of a least way to a label of a space.
     pub(crate) fn climbed_back(
         &self,
         alloc: Global,
+        way: Way,
         space: &[Label],
         top: usize,
     ) -> Result<Vec<Rung>, NoMemory>
-        requires rising { IsRisingWithin 0 (length self.now.climbs) space.now }
+        requires rising { IsRisingWithin 0 (length (climbs_by way self.now)) space.now }
         requires top { top < length space.now }
-        ensures { IfOk result (λ rungs. IsWayBackFrom self.now.climbs space.now top rungs.items) }
+        ensures { IfOk result
+            (λ rungs. IsWayBackFrom (climbs_by way self.now) space.now top rungs.items) }
     {
-        climb_back(alloc, &self.climbing, space, top)
+        climb_back(alloc, self.slopes(way), space, top)
     }
 
-    /// The falling arcs of a least way from a label of a space.
-    pub(crate) fn fallen_back(
+    /// The least length over a higher place from each place of a rising list to a place, or the other way round.
+    fn rests<L>(
         &self,
         alloc: Global,
-        space: &[Label],
-        top: usize,
-    ) -> Result<Vec<Rung>, NoMemory>
-        requires rising { IsRisingWithin 0 (length self.now.falls) space.now }
-        requires top { top < length space.now }
-        ensures { IfOk result (λ rungs. IsWayBackFrom self.now.falls space.now top rungs.items) }
-    {
-        climb_back(alloc, &self.falling, space, top)
-    }
-
-    /// The least length over a higher place, from each place of a rising list.
-    pub(crate) fn rests<L>(
-        &self,
-        alloc: Global,
+        way: Way,
         space: &[Label],
         to: u32,
         steps: &mut Steps<L>,
     ) -> Result<Vec<Option<u64>>, NoMemory>
         requires space { IsRisingWithin 0 (length self.now.nodes) space.now }
         requires to { to < length self.now.nodes }
-        ensures rests { IfOk result (λ rests. AreRests self.now to space.now rests.items 0) }
+        ensures rests { IfOk result (λ rests.
+            AreRests (faced way self.now) to space.now rests.items 0) }
         ensures asks { steps.new.1 ≡ steps.old.1 }
     {
-        let down = climb(alloc, &self.falling, to, steps)?;
+        let down = self.climbed(alloc, way.turned(), to, steps)?;
         let mut rests = vec![in alloc; None; space.len()]?;
         for index in (0..space.len()).rev() {
             let rest = self.rest(
                 alloc,
+                way,
                 space,
                 index,
                 rests.as_slice(),
@@ -253,6 +239,7 @@ impl Levels {
     fn rest<L>(
         &self,
         alloc: Global,
+        way: Way,
         space: &[Label],
         index: usize,
         rests: &[Option<u64>],
@@ -262,17 +249,17 @@ impl Levels {
     ) -> Result<Option<u64>, NoMemory>
         requires space { IsRisingWithin 0 (length self.now.nodes) space.now }
         requires index { index < length space.now }
-        requires rests { AreRests self.now to space.now rests.now (index + 1) }
-        requires down { IsSpace self.now.falls to down.now }
+        requires rests { AreRests (faced way self.now) to space.now rests.now (index + 1) }
+        requires down { IsSpace (faced way self.now).falls to down.now }
         requires to { to < length self.now.nodes }
-        ensures rest { IfOk result (IsRestAt self.now to space.now index) }
+        ensures rest { IfOk result (IsRestAt (faced way self.now) to space.now index) }
         ensures asks { steps.new.1 ≡ steps.old.1 }
     {
         let place = space[index].place;
         let mut least = length_at(down, place);
-        for arc in self.row(place) {
+        for arc in self.row(way, place) {
             steps.tick();
-            let far = self.rest_of_end(alloc, space, index, rests, arc.to, to, steps)?;
+            let far = self.rest_of_end(alloc, way, space, index, rests, arc.to, to, steps)?;
             least = over_arc(least, *arc, far);
         }
         Ok(least)
@@ -282,6 +269,7 @@ impl Levels {
     fn rest_of_end<L>(
         &self,
         alloc: Global,
+        way: Way,
         space: &[Label],
         index: usize,
         rests: &[Option<u64>],
@@ -292,15 +280,15 @@ impl Levels {
         requires space { IsRisingWithin 0 (length self.now.nodes) space.now }
         requires index { index < length space.now }
         requires higher { (d : LabelOf) → (slice_index_or space.now index d).place < end }
-        requires rests { AreRests self.now to space.now rests.now (index + 1) }
+        requires rests { AreRests (faced way self.now) to space.now rests.now (index + 1) }
         requires end { end < length self.now.nodes }
         requires to { to < length self.now.nodes }
-        ensures rest { IfOk result (IsLeastTop self.now end to) }
+        ensures rest { IfOk result (IsLeastTop (faced way self.now) end to) }
         ensures asks { steps.new.1 ≡ steps.old.1 }
     {
         match find(space, end) {
             Some(at) => Ok(rests[at]),
-            None => self.between(alloc, end, to, steps),
+            None => self.between(alloc, way, end, to, steps),
         }
     }
 }

@@ -6,6 +6,7 @@ ghost use Rattle.upward_search.specs.Parts.{IsRoad, HasMiddle, IsPart, HasArcTo,
 
 use crate::levels::Levels;
 use crate::slope::{Arc, Label};
+use crate::way::Way;
 use ride_base::NoMemory;
 use std::alloc::Global;
 
@@ -27,7 +28,7 @@ impl Levels {
         ensures part { IsClimbPart self.now from to result }
         ensures ladder { IsLadder self.now }
     {
-        let arc = least_arc(self.row(from), to);
+        let arc = least_arc(self.row(Way::From, from), to);
         Part {
             from,
             to,
@@ -43,7 +44,7 @@ impl Levels {
         ensures part { IsFallPart self.now from to result }
         ensures ladder { IsLadder self.now }
     {
-        let arc = least_arc(self.falling_row(to), from);
+        let arc = least_arc(self.row(Way::To, to), from);
         Part {
             from,
             to,

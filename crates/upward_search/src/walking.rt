@@ -16,6 +16,7 @@ use crate::meeting::least_sum;
 use crate::slope::Label;
 use crate::topping::top_of;
 use crate::unpacking::{Part, is_road};
+use crate::way::Way;
 use ride_base::NoMemory;
 use road_graph::{Graph, NodeNo, Steps, Walk};
 use std::alloc::Global;
@@ -96,8 +97,8 @@ impl Levels {
             (λ line. IsLeastLine self.now from to line.roads.items line.run)) }
         ensures asks { steps.new.1 ≡ steps.old.1 }
     {
-        let left = self.climbed(alloc, from, steps)?;
-        let right = self.fallen(alloc, to, steps)?;
+        let left = self.climbed(alloc, Way::From, from, steps)?;
+        let right = self.climbed(alloc, Way::To, to, steps)?;
         let ups = left.as_slice();
         let downs = right.as_slice();
         let Some(total) = least_sum(ups, downs) else {
@@ -106,8 +107,8 @@ impl Levels {
         let Some((index, other)) = top_of(ups, downs, total) else {
             return Ok(None);
         };
-        let up = self.climbed_back(alloc, ups, index)?;
-        let down = self.fallen_back(alloc, downs, other)?;
+        let up = self.climbed_back(alloc, Way::From, ups, index)?;
+        let down = self.climbed_back(alloc, Way::To, downs, other)?;
         let parts = stacked(alloc, up.as_slice(), down)?;
         let line = self.unpacked(alloc, from, to, parts)?;
         Ok(Some(line))

@@ -5,11 +5,11 @@ use Rattle.upward_search.proofs.Distance.{named, fits_levels}
 use Rattle.upward_search.proofs.ForwardSpace.{rising_places}
 use Rattle.upward_search.proofs.hierarchy.Hierarchy.rest_to.Goals as goal
 
-pub rest_to-requires-clause-rises : goal.rest_to-requires-clause-rises
-rest_to-requires-clause-rises g c = rising_places c.self.inside.levels c.laws.ensures.ladder c.laws.ensures.apart c.laws.ensures.places c.args.space.now (subst (λ (h : Ranking). AreRankedNodes h c.args.space.now) (sym c.self.view_is) c.requires.space)
+pub rests_by-requires-clause-rises : goal.rests_by-requires-clause-rises
+rests_by-requires-clause-rises g c = rising_places c.self.inside.levels c.laws.ensures.ladder c.laws.ensures.apart c.laws.ensures.places c.args.space.now (subst (λ (h : Ranking). AreRankedNodes h c.args.space.now) (sym c.self.view_is) c.requires.space)
 
-pub rest_to-requires-clause-to : goal.rest_to-requires-clause-to
-rest_to-requires-clause-to g c = named c.self.inside.levels c.args.self.now c.self.view_is c.laws.ensures.places c.args.to c.requires.to
+pub rests_by-requires-clause-node : goal.rests_by-requires-clause-node
+rests_by-requires-clause-node g c = named c.self.inside.levels c.args.self.now c.self.view_is c.laws.ensures.places c.args.to c.requires.to
 
 pub returns-clause-rests : goal.returns-clause-rests
 returns-clause-rests x c = λ g lawful fit. rw c.from_vec.ensures (c.in_ok-rests.ensures.rests g (fits_levels c.self.inside.levels c.args.self.now c.self.view_is c.laws.ensures.ladder c.laws.ensures.apart c.laws.ensures.places g lawful fit))

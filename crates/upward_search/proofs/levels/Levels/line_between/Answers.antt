@@ -30,8 +30,8 @@ top_of-requires-clause-low g c = short_in c.args.self.now.falls c.args.to c.in_o
 pub climbed_back-requires-clause-top : goal.climbed_back-requires-clause-top
 climbed_back-requires-clause-top g c = slice_get_within c.as_slice-ups.result.now c.in-Some-top_of.index c.in-Some-top_of.ensures.r c.in-Some-top_of.ensures.stands
 
-pub fallen_back-requires-clause-top : goal.fallen_back-requires-clause-top
-fallen_back-requires-clause-top g c = slice_get_within c.as_slice-downs.result.now c.in-Some-top_of.other c.in-Some-top_of.ensures.joint.label c.in-Some-top_of.ensures.joint.stands
+pub climbed_back-requires-2-clause-top : goal.climbed_back-requires-2-clause-top
+climbed_back-requires-2-clause-top g c = slice_get_within c.as_slice-downs.result.now c.in-Some-top_of.other c.in-Some-top_of.ensures.joint.label c.in-Some-top_of.ensures.joint.stands
 
 pub unpacked-requires : goal.unpacked-requires
 unpacked-requires g c =
