@@ -4,7 +4,8 @@ use Rattle.std.proofs.lemmas.List.{take_more, take_all}
 use Rattle.std.proofs.lemmas.Option.{slice_get-get_or}
 use Rattle.road_graph.specs.declared.road.NodeNo.{NodeNo}
 use Rattle.upward_search.specs.declared.slope.Label.{Label}
-use Rattle.upward_search.specs.Ladders.{Ladder, IsLadder, IsAt, AreApart, ArePlaces, LadderFits, faced}
+use Rattle.upward_search.specs.Ladders.{Ladder, IsLadder, IsAt, AreApart, ArePlaces, faced}
+use Rattle.upward_search.specs.Hierarchies.{LadderFits}
 use Rattle.upward_search.specs.Rests.{AreRests}
 use Rattle.road_graph.specs.Roads.{Roads}
 use Rattle.upward_search.specs.declared.way.Way.{Way}

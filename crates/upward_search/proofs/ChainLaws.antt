@@ -110,7 +110,7 @@ module _ (g : Roads) (lawful : IsGraph g) (ranks : List ℕ) (climbing falling :
   falls_are_walks chain u v x n c = chain_walk g (λ a h. ((arcs.falls a h).to, fall_is_walk a h)) chain u v x n c
 
   -- a climb and a fall that meet are together no shorter than the distance
-  meeting_walk : (u m v : NodeNo) (ups downs : List RankArc) (x y : ℕ) → IsNode g u → IsChain (Contains climbing) u m ups x → IsChain (Contains falling) m v downs y → HasWalk g u v (x + y)
+  pub meeting_walk : (u m v : NodeNo) (ups downs : List RankArc) (x y : ℕ) → IsNode g u → IsChain (Contains climbing) u m ups x → IsChain (Contains falling) m v downs y → HasWalk g u v (x + y)
   meeting_walk u m v ups downs x y n c d =
       let w = climbs_are_walks ups u m x n c in
       let t = falls_are_walks downs m v y (end_is_node ups u m x n c) d in

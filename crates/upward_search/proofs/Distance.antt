@@ -5,13 +5,13 @@ use Rattle.road_graph.specs.declared.road.NodeNo.{NodeNo}
 use Rattle.road_graph.specs.Roads.{Roads}
 use Rattle.road_graph.specs.Graphs.{IsGraph}
 use Rattle.road_graph.specs.Walks.{IsDist, NoWalk}
-use Rattle.upward_search.specs.Ladders.{Ladder, IsLadder, AreApart, ArePlaces, IsAt, IsNamed, IsLeastTop, LadderFits}
+use Rattle.upward_search.specs.Ladders.{Ladder, IsLadder, AreApart, ArePlaces, IsAt, IsNamed, IsLeastTop}
 use Rattle.upward_search.specs.declared.slope.Label.{Label}
 use Rattle.upward_search.specs.Climbs.{IsSpace, work}
 use Rattle.upward_search.specs.Spaces.{IsForwardSpace, IsBackwardSpace, AreSpaces, both_arcs}
 use Rattle.upward_search.proofs.LadderFits.{answer_is}
 use Rattle.upward_search.proofs.ForwardSpace.{forward_labels, backward_labels}
-use Rattle.upward_search.specs.Hierarchies.{Ranking, Fits, HasRank, ranking_of}
+use Rattle.upward_search.specs.Hierarchies.{Ranking, Fits, HasRank, ranking_of, LadderFits}
 use Rattle.upward_search.proofs.RankingOf.{fits_ladder}
 
 -- a node with a rank has a place

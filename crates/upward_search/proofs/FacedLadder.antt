@@ -4,7 +4,8 @@ use Rattle.road_graph.specs.declared.road.NodeNo.{NodeNo}
 use Rattle.road_graph.specs.Roads.{Roads}
 use Rattle.upward_search.specs.declared.way.Way.{Way}
 use Rattle.upward_search.specs.declared.way.Way.TheVariants.{From, To}
-use Rattle.upward_search.specs.Ladders.{Ladder, IsLadder, IsAt, IsOverPlace, IsTop, IsLeastTop, LadderFits, IsAnswerBy, faced}
+use Rattle.upward_search.specs.Ladders.{Ladder, IsLadder, IsAt, IsOverPlace, IsTop, IsLeastTop, IsAnswerBy, faced}
+use Rattle.upward_search.specs.Hierarchies.{LadderFits}
 use Rattle.upward_search.proofs.LadderFits.{answer_is}
 
 over_turned : (h : Ladder) (from to k x : ℕ) → IsOverPlace h from to k x → IsOverPlace (faced To h) to from k x

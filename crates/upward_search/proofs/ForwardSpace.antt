@@ -1,25 +1,20 @@
-use Rattle.std.proofs.Common.{◌≡◌, ℕ, zero, suc, ◌+◌, ◌<◌, ◌≤◌, ◌^◌, inl, inr, List, [], ◌∷◌, ◌++◌, length, map, get_or, Some, sym, ap, ◌∙◌, arith, refl, subst}
+use Rattle.std.proofs.Common.{◌≡◌, ℕ, zero, suc, ◌+◌, ◌<◌, ◌≤◌, ◌^◌, inl, inr, List, [], ◌∷◌, length, map, get_or, Some, sym, ap, ◌∙◌, arith, refl, subst}
 use Rattle.std.specs.Prelude.{slice_get, slice_index, Contains}
 use Rattle.std.specs.List.Sorted.{IsStrictlyIncreasing}
 use Rattle.std.proofs.lemmas.List.{length-map}
 use Rattle.std.proofs.lemmas.Option.{slice_get_within}
 use Rattle.road_graph.specs.declared.road.NodeNo.{NodeNo}
-use Rattle.upward_search.specs.declared.arc.RankArc.{RankArc}
 use Rattle.upward_search.specs.declared.slope.Arc.{Arc}
 use Rattle.upward_search.specs.declared.slope.Label.{Label}
 use Rattle.upward_search.specs.Climbs.{IsIn, IsClimb, climb_length, IsClimbDist, IsRisingWithin, IsSpace, work}
 use Rattle.upward_search.specs.Ladders.{Ladder, IsLadder, IsAt, AreApart, ArePlaces}
 use Rattle.upward_search.specs.Names.{AreListed, AreRising, label_by}
-use Rattle.upward_search.specs.Chains.{IsChain, IsLeastChain}
+use Rattle.upward_search.specs.Chains.{IsLeastChain}
 use Rattle.upward_search.specs.Fitting.{rank_of}
-use Rattle.upward_search.specs.Hierarchies.{HasRank, node_at, climbing_arc, falling_arc, ranking_of}
+use Rattle.upward_search.specs.Hierarchies.{HasRank, node_at, ranking_of}
 use Rattle.upward_search.specs.Spaces.{AreRisingRanks, AreRankedNodes, IsForwardSpace, IsBackwardSpace, climbing_arcs, falling_arcs}
-use Rattle.upward_search.proofs.RankingOf.{Has, has_in, in_has, has_map, map_has, contains_in, in_contains, arcs_have, node_is, at_node, climb_low, fall_low, climb_chain, fall_chain}
-use Rattle.upward_search.proofs.ChainLaws.{chain_one, chain_append}
+use Rattle.upward_search.proofs.RankingOf.{Has, has_in, in_has, has_map, map_has, contains_in, in_contains, at_node, climb_low, fall_low, climb_chain, fall_chain, chain_up, chain_down, same_at}
 use Rattle.upward_search.proofs.ArcsOut.{climbing_work, falling_work}
-
-same_at : (l : Ladder) (p q : ℕ) (u v : NodeNo) → IsAt l p u → IsAt l q v → p ≡ q → u ≡ v
-same_at l p q u v a b e = let s = ap (slice_get l.nodes) e in cc
 
 -- a list of labels that rise
 rising_next : (low high : ℕ) (rs : List Label) (k : ℕ) → IsRisingWithin low high rs → k + 1 < length (map (λ (r : Label). r.place) rs) → get_or (map (λ (r : Label). r.place) rs) k 0 < get_or (map (λ (r : Label). r.place) rs) (k + 1) 0
@@ -43,25 +38,9 @@ within_of low high (r ∷ s ∷ rs) up below le first = (
 )
 
 module _ (l : Ladder) (lad : IsLadder l) (apart : AreApart l) (placed : ArePlaces l.nodes l.places) where
-  chain_up : (arcs : List Arc) (p q : ℕ) (u v : NodeNo) → IsClimb l.climbs p q arcs → IsAt l p u → IsAt l q v → (chain : List RankArc) × IsChain (Contains (ranking_of l).climbing) u v chain (climb_length arcs)
-  chain_up [] p q u v c a b = ([], record { leads = same_at l p q u v a b c; all = tt; sum = refl })
-  chain_up (arc ∷ arcs) p q u v c a b =
-      let low = climb_low l lad apart p arc c.0 in
-      let rest = chain_up arcs arc.to q (node_at l.nodes arc.to) v c.1 (at_node l arc.to low.1) b in
-      (climbing_arc l.nodes p arc ∷ rest.0, record { leads = (node_is l.nodes p u a, rest.1.leads); all = (arcs_have (climbing_arc l.nodes) l.climbs p arc c.0, rest.1.all); sum = (let s = rest.1.sum in omega arith) })
-
-  chain_down : (arcs : List Arc) (p q : ℕ) (v u : NodeNo) → IsClimb l.falls p q arcs → IsAt l p v → IsAt l q u → (chain : List RankArc) × IsChain (Contains (ranking_of l).falling) u v chain (climb_length arcs)
-  chain_down [] p q v u c a b = ([], record { leads = sym (same_at l p q v u a b c); all = tt; sum = refl })
-  chain_down (arc ∷ arcs) p q v u c a b =
-      let low = fall_low l lad apart p arc c.0 in
-      let rest = chain_down arcs arc.to q (node_at l.nodes arc.to) u c.1 (at_node l arc.to low.1) b in
-      let last = chain_one {Kind = Contains (ranking_of l).falling} (falling_arc l.nodes p arc) (node_at l.nodes arc.to) v (arcs_have (falling_arc l.nodes) l.falls p arc c.0) refl (node_is l.nodes p v a) in
-      let more = chain_append {Kind = Contains (ranking_of l).falling} u (node_at l.nodes arc.to) v rest.0 (climb_length arcs) rest.1 (falling_arc l.nodes p arc ∷ []) arc.length last in
-      (rest.0 ++ falling_arc l.nodes p arc ∷ [], record { leads = more.leads; all = more.all; sum = (let s = more.sum in omega arith) })
-
   least_up : (p q : ℕ) (u v : NodeNo) (x : ℕ) → IsAt l p u → IsAt l q v → IsClimbDist l.climbs p q x → IsLeastChain (ranking_of l).climbing u v x
   least_up p q u v x a b d =
-      let c = chain_up d.reached.0 p q u v d.reached.1 a b in
+      let c = chain_up l lad d.reached.0 p q u v d.reached.1 a b in
       record {
         chain = c.0;
         reached = record { leads = c.1.leads; all = c.1.all; sum = c.1.sum ∙ d.reached.2 };
@@ -71,7 +50,7 @@ module _ (l : Ladder) (lad : IsLadder l) (apart : AreApart l) (placed : ArePlace
 
   least_down : (p q : ℕ) (v u : NodeNo) (x : ℕ) → IsAt l p v → IsAt l q u → IsClimbDist l.falls p q x → IsLeastChain (ranking_of l).falling u v x
   least_down p q v u x a b d =
-      let c = chain_down d.reached.0 p q v u d.reached.1 a b in
+      let c = chain_down l lad d.reached.0 p q v u d.reached.1 a b in
       record {
         chain = c.0;
         reached = record { leads = c.1.leads; all = c.1.all; sum = c.1.sum ∙ d.reached.2 };
@@ -85,7 +64,7 @@ module _ (l : Ladder) (lad : IsLadder l) (apart : AreApart l) (placed : ArePlace
       let same = apart e.end q v e.ends b in
       record {
         reached = (e.arcs, subst (λ n. IsClimb l.climbs p n e.arcs) same e.climb, e.long ∙ c.reached.sum);
-        least = λ arcs o. (let d = chain_up arcs p q u v o a b in c.least d.0 (climb_length arcs) d.1);
+        least = λ arcs o. (let d = chain_up l lad arcs p q u v o a b in c.least d.0 (climb_length arcs) d.1);
       }
 
   fall_least : (p q : ℕ) (v u : NodeNo) (x : ℕ) → IsAt l p v → IsAt l q u → IsLeastChain (ranking_of l).falling u v x → IsClimbDist l.falls p q x
@@ -94,7 +73,7 @@ module _ (l : Ladder) (lad : IsLadder l) (apart : AreApart l) (placed : ArePlace
       let same = apart e.end q u e.ends b in
       record {
         reached = (e.arcs, subst (λ n. IsClimb l.falls p n e.arcs) same e.climb, e.long ∙ c.reached.sum);
-        least = λ arcs o. (let d = chain_down arcs p q v u o a b in c.least d.0 (climb_length arcs) d.1);
+        least = λ arcs o. (let d = chain_down l lad arcs p q v u o a b in c.least d.0 (climb_length arcs) d.1);
       }
 
   -- a listed node is that of a label, and the other way round
@@ -159,11 +138,11 @@ module _ (l : Ladder) (lad : IsLadder l) (apart : AreApart l) (placed : ArePlace
 
   climb_end : (arcs : List Arc) (p q : ℕ) → IsClimb l.climbs p q arcs → p < length l.nodes → q < length l.nodes
   climb_end [] p q c lt = let e : p ≡ q = c in omega arith
-  climb_end (a ∷ arcs) p q c lt = climb_end arcs a.to q c.1 (climb_low l lad apart p a c.0).1
+  climb_end (a ∷ arcs) p q c lt = climb_end arcs a.to q c.1 (climb_low l lad p a c.0).1
 
   fall_end : (arcs : List Arc) (p q : ℕ) → IsClimb l.falls p q arcs → p < length l.nodes → q < length l.nodes
   fall_end [] p q c lt = let e : p ≡ q = c in omega arith
-  fall_end (a ∷ arcs) p q c lt = fall_end arcs a.to q c.1 (fall_low l lad apart p a c.0).1
+  fall_end (a ∷ arcs) p q c lt = fall_end arcs a.to q c.1 (fall_low l lad p a c.0).1
 
   -- what is read of nodes with places that rise is the space of places
   labels_rise : (high : ℕ) → length l.nodes ≤ high → (space : List (NodeNo × ℕ)) → AreRisingRanks (ranking_of l) space → ((n : NodeNo × ℕ) → Has space n → IsAt l (slice_index l.places n.0.0) n.0) → IsRisingWithin 0 high (map (label_by l.places) space)
@@ -193,7 +172,7 @@ module _ (l : Ladder) (lad : IsLadder l) (apart : AreApart l) (placed : ArePlace
             subst (λ (o : Label). IsClimbDist l.climbs p o.place o.length × (o.length < 2 ^ 53)) m.2 (d, x.1));
         whole = λ q arcs c lt. (let high = climb_end arcs p q c (slice_get_within l.nodes p u at) in
             let a = at_node l q high in
-            let d = chain_up arcs p q u (node_at l.nodes q) c at a in
+            let d = chain_up l lad arcs p q u (node_at l.nodes q) c at a in
             let w = f.whole (node_at l.nodes q) d.0 (climb_length arcs) d.1 lt in
             let i = contains_in space (node_at l.nodes q, w.0) w.1 in
             let h = has_map (label_by l.places) space (node_at l.nodes q, w.0) (in_has space i.0 (node_at l.nodes q, w.0) i.1) in
@@ -218,7 +197,7 @@ module _ (l : Ladder) (lad : IsLadder l) (apart : AreApart l) (placed : ArePlace
             subst (λ (o : Label). IsClimbDist l.falls p o.place o.length × (o.length < 2 ^ 53)) m.2 (d, x.1));
         whole = λ q arcs c lt. (let high = fall_end arcs p q c (slice_get_within l.nodes p v at) in
             let a = at_node l q high in
-            let d = chain_down arcs p q v (node_at l.nodes q) c at a in
+            let d = chain_down l lad arcs p q v (node_at l.nodes q) c at a in
             let w = f.whole (node_at l.nodes q) d.0 (climb_length arcs) d.1 lt in
             let i = contains_in space (node_at l.nodes q, w.0) w.1 in
             let h = has_map (label_by l.places) space (node_at l.nodes q, w.0) (in_has space i.0 (node_at l.nodes q, w.0) i.1) in

@@ -9,7 +9,8 @@ use Rattle.road_graph.specs.Walks.{IsWalk, IsDist, IsSimple, IsLeastWalk, IsMeas
 use Rattle.road_graph.proofs.WalkLaws.{simple_few}
 use Rattle.upward_search.specs.declared.slope.Label.{Label}
 use Rattle.upward_search.specs.Climbs.{IsIn}
-use Rattle.upward_search.specs.Ladders.{Ladder, IsLadder, IsAt, AreApart, IsLeastTop, LadderFits}
+use Rattle.upward_search.specs.Ladders.{Ladder, IsLadder, IsAt, AreApart, IsLeastTop}
+use Rattle.upward_search.specs.Hierarchies.{LadderFits}
 use Rattle.upward_search.specs.Parts.{AreRoads, roads_length}
 use Rattle.upward_search.specs.Lines.{AreLed}
 use Rattle.upward_search.specs.Stacks.{IsLeastLine}

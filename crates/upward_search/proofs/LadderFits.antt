@@ -1,67 +1,24 @@
-use Rattle.std.proofs.Common.{◌≡◌, ℕ, zero, suc, ◌+◌, ◌<◌, ◌≤◌, ◌^◌, ◌⊎◌, inl, inr, ⊎_elim, List, [], ◌∷◌, length, get_or, Option, Some, None, sym, ap, ◌∙◌, arith, refl, subst}
+use Rattle.std.proofs.Common.{◌≡◌, ℕ, zero, suc, ◌+◌, ◌<◌, ◌≤◌, ◌^◌, ◌⊎◌, inl, inr, List, [], ◌∷◌, length, get_or, Option, Some, None, sym, ap, ◌∙◌, arith, refl, subst}
 use Rattle.std.specs.Prelude.{slice_get, MatchOption, Result, Ok, Err, IfOk}
 use Rattle.road_graph.specs.declared.road.NodeNo.{NodeNo}
-use Rattle.road_graph.specs.Roads.{Roads, least_weight}
+use Rattle.road_graph.specs.Roads.{Roads}
 use Rattle.road_graph.specs.Walks.{IsDist}
 use Rattle.std.proofs.lemmas.Bool.{cases_lt}
 use Rattle.std.proofs.lemmas.Option.{slice_get_within, slice_get-get_or}
-use Rattle.road_graph.proofs.WalkLaws.{dist_short, walk_after, has_distance}
+use Rattle.road_graph.proofs.WalkLaws.{dist_short, has_distance}
 use Rattle.upward_search.specs.declared.slope.Arc.{Arc}
 use Rattle.upward_search.specs.declared.slope.Label.{Label}
-use Rattle.upward_search.specs.Rows.{row}
 use Rattle.upward_search.specs.Climbs.{IsIn, IsClimb, climb_length, IsRisingWithin, IsSpace, work}
 use Rattle.upward_search.specs.Sums.{AreShort, Common, HasNoCommon, IsLeastSum}
 use Rattle.upward_search.proofs.IsSearch.{one_work}
-use Rattle.upward_search.proofs.ChainLaws.{HasWalk, walk_none, walk_one}
-use Rattle.upward_search.specs.Ladders.{Ladder, IsLadder, IsAt, IsArcOf, IsTop, IsLeastTop, IsAnswer, LadderFits}
-
-same_at : (h : Ladder) (p q : ℕ) (u v : NodeNo) → IsAt h p u → IsAt h q v → p ≡ q → u ≡ v
-same_at h p q u v a b e = let s = ap (slice_get h.nodes) e in cc
+use Rattle.upward_search.proofs.ChainLaws.{HasWalk, meeting_walk}
+use Rattle.upward_search.proofs.RankingOf.{chain_up, chain_down}
+use Rattle.upward_search.specs.Ladders.{Ladder, IsLadder, IsAt, IsTop, IsLeastTop, IsAnswer}
+use Rattle.upward_search.specs.Hierarchies.{ranking_of, LadderFits}
 
 -- the node at a place
 node_at : (h : Ladder) (p : ℕ) → p < length h.nodes → (n : NodeNo) × IsAt h p n
 node_at h p lt = (get_or h.nodes p (record { 0 = 0 }), slice_get-get_or h.nodes p (record { 0 = 0 }) lt)
-
--- what an arc is, by its middle
-climb_is : (g : Roads) (h : Ladder) → LadderFits g h → IsLadder h → (p : ℕ) (a : Arc) → IsIn (row h.climbs p) a → IsArcOf g h p a.to a.length a.middle
-climb_is g h f l p a i = ⊎_elim (λ lt. inr (l.climbs_over p a i lt)) (λ le. inl (f.climbing p a i le)) (cases_lt a.middle p)
-
-fall_is : (g : Roads) (h : Ladder) → LadderFits g h → IsLadder h → (p : ℕ) (a : Arc) → IsIn (row h.falls p) a → IsArcOf g h a.to p a.length a.middle
-fall_is g h f l p a i = ⊎_elim (λ lt. inr (l.falls_over p a i lt)) (λ le. inl (f.falling p a i le)) (cases_lt a.middle p)
-
--- each arc is as long as some walk
-arc_goes : (g : Roads) (h : Ladder) → LadderFits g h → IsLadder h → (n from to length middle : ℕ) → (from < n) ⊎ (to < n) → IsArcOf g h from to length middle → (u v : NodeNo) → IsAt h from u → IsAt h to v → HasWalk g u v length
-arc_goes g h f l zero from to length middle low arc u v a b = absurd (⊎_elim (λ l. omega arith) (λ l. omega arith) low)
-arc_goes g h f l (suc n) from to length k low (inl arc) u v a b =
-    let e : arc.u ≡ u = same_at h from from arc.u u arc.starts a refl in
-    let e' : arc.v ≡ v = same_at h to to arc.v v arc.ends b refl in
-    walk_one g f.graph u v length (subst (λ (n : NodeNo). least_weight g.roads u n ≡ Some length) e' (subst (λ (n : NodeNo). least_weight g.roads n arc.v ≡ Some length) e arc.weight))
-arc_goes g h f l (suc n) from to length k low (inr arc) u v a b =
-    let below : k < n = (let o = arc.lower in let m = arc.below in ⊎_elim (λ l. omega arith) (λ l. omega arith) low) in
-    let w = node_at h k (let o = arc.lower in let m = slice_get_within h.nodes from u a in omega arith) in
-    let fall = arc_goes g h f l n arc.fall.to k arc.fall.length arc.fall.middle (inr below) (fall_is g h f l k arc.fall arc.falls) u w.0 (subst (λ p. IsAt h p u) (sym arc.starts) a) w.1 in
-    let climb = arc_goes g h f l n k arc.climb.to arc.climb.length arc.climb.middle (inl below) (climb_is g h f l k arc.climb arc.climbs) w.0 v w.1 (subst (λ p. IsAt h p v) (sym arc.ends) b) in
-    subst (HasWalk g u v) arc.sum (walk_after g fall.0 u w.0 v arc.fall.length fall.1 climb.0 arc.climb.length climb.1)
-
-climb_goes : (g : Roads) (h : Ladder) → LadderFits g h → IsLadder h → (arcs : List Arc) (p q : ℕ) → IsClimb h.climbs p q arcs → (u v : NodeNo) → IsAt h p u → IsAt h q v → HasWalk g u v (climb_length arcs)
-climb_goes g h f l [] p q c u v a b = subst (λ (n : NodeNo). HasWalk g u n 0) (same_at h p q u v a b c) (walk_none g u (f.nodes p u a))
-climb_goes g h f l (arc ∷ arcs) p q c u v a b =
-    let i = c.0 in
-    let up = l.climbs_up.up p i.0 arc i.1 in
-    let w = node_at h arc.to (let m = l.climbs_many in let t = up.1 in omega arith) in
-    let first = arc_goes g h f l (suc p) p arc.to arc.length arc.middle (inl (omega arith)) (climb_is g h f l p arc i) u w.0 a w.1 in
-    let rest = climb_goes g h f l arcs arc.to q c.1 w.0 v w.1 b in
-    walk_after g first.0 u w.0 v arc.length first.1 rest.0 (climb_length arcs) rest.1
-
-fall_goes : (g : Roads) (h : Ladder) → LadderFits g h → IsLadder h → (arcs : List Arc) (p q : ℕ) → IsClimb h.falls p q arcs → (u v : NodeNo) → IsAt h p u → IsAt h q v → HasWalk g v u (climb_length arcs)
-fall_goes g h f l [] p q c u v a b = subst (λ (n : NodeNo). HasWalk g n u 0) (same_at h p q u v a b c) (walk_none g u (f.nodes p u a))
-fall_goes g h f l (arc ∷ arcs) p q c u v a b =
-    let i = c.0 in
-    let up = l.falls_up.up p i.0 arc i.1 in
-    let w = node_at h arc.to (let m = l.falls_many in let t = up.1 in omega arith) in
-    let last = arc_goes g h f l (suc p) arc.to p arc.length arc.middle (inr (omega arith)) (fall_is g h f l p arc i) w.0 u w.1 a in
-    let rest = fall_goes g h f l arcs arc.to q c.1 w.0 v w.1 b in
-    subst (HasWalk g v u) (omega arith) (walk_after g rest.0 v w.0 u (climb_length arcs) rest.1 last.0 arc.length last.1)
 
 pub below_high : (low high : ℕ) (space : List Label) (t : Label) (k : ℕ) → IsRisingWithin low high space → slice_get space k ≡ Some t → t.place < high
 below_high low high [] t k h e = cc
@@ -107,9 +64,10 @@ module _ (g : Roads) (h : Ladder) (f : LadderFits g h) (l : IsLadder h) (p q : �
   top_goes : (x : ℕ) → IsTop h p q x → HasWalk g u v x
   top_goes x t =
       let w = node_at h t.top (within t.down q (slice_get_within h.nodes q v b) t.falls) in
-      let up = climb_goes g h f l t.up p t.top t.climbs u w.0 a w.1 in
-      let down = fall_goes g h f l t.down q t.top t.falls v w.0 b w.1 in
-      subst (HasWalk g u v) t.sum (walk_after g up.0 u w.0 v (climb_length t.up) up.1 down.0 (climb_length t.down) down.1)
+      let r = ranking_of h in
+      let up = chain_up h l t.up p t.top u w.0 t.climbs a w.1 in
+      let down = chain_down h l t.down q t.top v w.0 t.falls b w.1 in
+      subst (HasWalk g u v) t.sum (meeting_walk g f.graph r.ranks r.climbing r.falling f.arcs u w.0 v up.0 down.0 (climb_length t.up) (climb_length t.down) (f.nodes p u a) up.1 down.1)
     where
       within : (arcs : List Arc) (from : ℕ) → from < length h.nodes → IsClimb h.falls from t.top arcs → t.top < length h.nodes
       within [] from low c = omega arith

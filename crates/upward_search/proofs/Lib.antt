@@ -4,6 +4,7 @@ mod Lists
 mod RowsOf
 mod IsSearch
 mod LeastSum
+mod RankingOf
 mod LadderFits
 mod FacedLadder
 mod HasPlaceAt
@@ -17,7 +18,6 @@ mod AreRowsOf
 mod IsOnWay
 mod TopOf
 mod IsBest
-mod RankingOf
 mod AreInOrder
 mod Assemble
 mod Distance

@@ -9,7 +9,8 @@ use Rattle.road_graph.specs.Walks.{IsWalk, IsSimple, walk_length, last_of}
 use Rattle.road_graph.proofs.WalkLaws.{same_node, step_to, test_from_node}
 use Rattle.upward_search.specs.declared.slope.Label.{Label}
 use Rattle.upward_search.specs.declared.unpacking.Part.{Part}
-use Rattle.upward_search.specs.Ladders.{Ladder, IsLadder, IsAt, IsRoadArc, LadderFits}
+use Rattle.upward_search.specs.Ladders.{Ladder, IsLadder, IsAt, IsRoadArc}
+use Rattle.upward_search.specs.Hierarchies.{LadderFits}
 use Rattle.upward_search.specs.Parts.{IsRoad, arc_of, IsPart, IsRoadPart, AreRoads, roads_length}
 use Rattle.upward_search.specs.Lines.{AreLed}
 use Rattle.upward_search.specs.Names.{AreNamed}

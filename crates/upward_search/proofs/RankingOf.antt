@@ -11,10 +11,11 @@ use Rattle.upward_search.specs.declared.arc.RankArc.{RankArc}
 use Rattle.upward_search.specs.declared.slope.Arc.{Arc}
 use Rattle.upward_search.specs.Rows.{row, count_rows}
 use Rattle.upward_search.specs.Climbs.{IsIn, IsClimb, climb_length}
-use Rattle.upward_search.specs.Ladders.{Ladder, IsLadder, IsAt, AreApart, ArePlaces, IsTop, LadderFits}
-use Rattle.upward_search.specs.Chains.{Leads, total, AreAll}
+use Rattle.upward_search.specs.Ladders.{Ladder, IsLadder, IsAt, AreApart, ArePlaces, IsTop}
+use Rattle.upward_search.specs.Chains.{Leads, total, AreAll, IsChain}
+use Rattle.upward_search.proofs.ChainLaws.{chain_one, chain_append}
 use Rattle.upward_search.specs.Fitting.{IsMadeOver, IsMade}
-use Rattle.upward_search.specs.Hierarchies.{Fits, node_at, middle_at, climbing_arc, falling_arc, arcs_by, ranking_of}
+use Rattle.upward_search.specs.Hierarchies.{Fits, node_at, middle_at, climbing_arc, falling_arc, arcs_by, ranking_of, LadderFits}
 use Rattle.upward_search.proofs.IsSearch.{climb-push, climb_length-push}
 
 -- x is one of a list
@@ -118,18 +119,39 @@ pub record EndsAt (l : Ladder) (rows : List (List Arc)) (p : ℕ) (n : NodeNo) (
   pub climb : IsClimb rows p end arcs
   pub long : climb_length arcs ≡ x
 
-module _ (l : Ladder) (lad : IsLadder l) (apart : AreApart l) where
+pub same_at : (l : Ladder) (p q : ℕ) (u v : NodeNo) → IsAt l p u → IsAt l q v → p ≡ q → u ≡ v
+same_at l p q u v a b e = let s = ap (slice_get l.nodes) e in cc
+
+module _ (l : Ladder) (lad : IsLadder l) where
   pub climb_low : (p : ℕ) (a : Arc) → IsIn (row l.climbs p) a → (p < length l.nodes) × (a.to < length l.nodes)
   climb_low p a i = let u = lad.climbs_up.up p i.0 a i.1 in let m = lad.climbs_many in let x = u.0 in let y = u.1 in (omega arith, omega arith)
 
   pub fall_low : (p : ℕ) (a : Arc) → IsIn (row l.falls p) a → (p < length l.nodes) × (a.to < length l.nodes)
   fall_low p a i = let u = lad.falls_up.up p i.0 a i.1 in let m = lad.falls_many in let x = u.0 in let y = u.1 in (omega arith, omega arith)
 
+  -- arcs that lead up from a place, as arcs between nodes
+  pub chain_up : (arcs : List Arc) (p q : ℕ) (u v : NodeNo) → IsClimb l.climbs p q arcs → IsAt l p u → IsAt l q v → (chain : List RankArc) × IsChain (Contains (ranking_of l).climbing) u v chain (climb_length arcs)
+  chain_up [] p q u v c a b = ([], record { leads = same_at l p q u v a b c; all = tt; sum = refl })
+  chain_up (arc ∷ arcs) p q u v c a b =
+      let low = climb_low p arc c.0 in
+      let rest = chain_up arcs arc.to q (node_at l.nodes arc.to) v c.1 (at_node l arc.to low.1) b in
+      (climbing_arc l.nodes p arc ∷ rest.0, record { leads = (node_is l.nodes p u a, rest.1.leads); all = (arcs_have (climbing_arc l.nodes) l.climbs p arc c.0, rest.1.all); sum = (let s = rest.1.sum in omega arith) })
+
+  pub chain_down : (arcs : List Arc) (p q : ℕ) (v u : NodeNo) → IsClimb l.falls p q arcs → IsAt l p v → IsAt l q u → (chain : List RankArc) × IsChain (Contains (ranking_of l).falling) u v chain (climb_length arcs)
+  chain_down [] p q v u c a b = ([], record { leads = sym (same_at l p q v u a b c); all = tt; sum = refl })
+  chain_down (arc ∷ arcs) p q v u c a b =
+      let low = fall_low p arc c.0 in
+      let rest = chain_down arcs arc.to q (node_at l.nodes arc.to) u c.1 (at_node l arc.to low.1) b in
+      let last = chain_one {Kind = Contains (ranking_of l).falling} (falling_arc l.nodes p arc) (node_at l.nodes arc.to) v (arcs_have (falling_arc l.nodes) l.falls p arc c.0) refl (node_is l.nodes p v a) in
+      let more = chain_append {Kind = Contains (ranking_of l).falling} u (node_at l.nodes arc.to) v rest.0 (climb_length arcs) rest.1 (falling_arc l.nodes p arc ∷ []) arc.length last in
+      (rest.0 ++ falling_arc l.nodes p arc ∷ [], record { leads = more.leads; all = more.all; sum = (let s = more.sum in omega arith) })
+
+module _ (l : Ladder) (lad : IsLadder l) (apart : AreApart l) where
   pub climb_chain : (chain : List RankArc) (u v : NodeNo) → Leads u v chain → AreAll (Contains (ranking_of l).climbing) chain → (p : ℕ) → IsAt l p u → EndsAt l l.climbs p v (total chain)
   climb_chain [] u v e all p at = record { end = p; ends = subst (IsAt l p) e at; arcs = []; climb = refl; long = refl }
   climb_chain (a ∷ more) u v lead all p at =
       let r = arcs_from (climbing_arc l.nodes) l.climbs a all.0 in
-      let low = climb_low r.place r.arc r.stands in
+      let low = climb_low l lad r.place r.arc r.stands in
       let z : 0 + r.place ≡ r.place = omega arith in
       let is : climbing_arc l.nodes r.place r.arc ≡ a = ap (λ n. climbing_arc l.nodes n r.arc) (sym z) ∙ sym r.is in
       let here = subst (IsAt l r.place) (ap (λ (b : RankArc). b.from) is ∙ lead.0) (at_node l r.place low.0) in
@@ -144,7 +166,7 @@ module _ (l : Ladder) (lad : IsLadder l) (apart : AreApart l) where
   fall_chain (a ∷ more) u v lead all q at =
       let rest = fall_chain more a.to v lead.1 all.1 q at in
       let r = arcs_from (falling_arc l.nodes) l.falls a all.0 in
-      let low = fall_low r.place r.arc r.stands in
+      let low = fall_low l lad r.place r.arc r.stands in
       let z : 0 + r.place ≡ r.place = omega arith in
       let is : falling_arc l.nodes r.place r.arc ≡ a = ap (λ n. falling_arc l.nodes n r.arc) (sym z) ∙ sym r.is in
       let here = subst (IsAt l r.place) (ap (λ (b : RankArc). b.to) is) (at_node l r.place low.0) in
@@ -172,7 +194,7 @@ module _ (l : Ladder) (lad : IsLadder l) (apart : AreApart l) where
   fits_ladder g lawful placed fit = record {
     graph = lawful;
     nodes = λ p n at. (let m = fit.ranked.many in let s = placed.some p n at in let i = placed.inside p n at in (s, omega arith));
-    climbing = λ p a i le. (let low = climb_low p a i in
+    climbing = λ p a i le. (let low = climb_low l lad p a i in
         record {
           u = node_at l.nodes p;
           v = node_at l.nodes a.to;
@@ -180,7 +202,7 @@ module _ (l : Ladder) (lad : IsLadder l) (apart : AreApart l) where
           ends = at_node l a.to low.1;
           weight = road_made g (climbing_arc l.nodes p a) (fit.arcs.climbing_made (climbing_arc l.nodes p a) (arcs_have (climbing_arc l.nodes) l.climbs p a i)) (no_middle p a.middle le);
         });
-    falling = λ p a i le. (let low = fall_low p a i in
+    falling = λ p a i le. (let low = fall_low l lad p a i in
         record {
           u = node_at l.nodes a.to;
           v = node_at l.nodes p;
@@ -188,6 +210,7 @@ module _ (l : Ladder) (lad : IsLadder l) (apart : AreApart l) where
           ends = at_node l p low.0;
           weight = road_made g (falling_arc l.nodes p a) (fit.arcs.falling_made (falling_arc l.nodes p a) (arcs_have (falling_arc l.nodes) l.falls p a i)) (no_middle p a.middle le);
         });
+    arcs = fit.arcs;
     covers = λ p q u v x a b d. top p q u v x a b d;
   }
     where

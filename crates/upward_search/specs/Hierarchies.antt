@@ -1,13 +1,15 @@
 use Rattle.std.specs.Prelude.{◌≡◌, ℕ, suc, ◌<◌, ◌≤◌, nat_lt, cond, List, [], ◌∷◌, ◌++◌, length, map, MatchOption, Option, Some, None, slice_index_or, refl}
 use Rattle.road_graph.specs.declared.road.NodeNo.{NodeNo}
-use Rattle.road_graph.specs.Roads.{Roads, node}
+use Rattle.road_graph.specs.Roads.{Roads, IsNode, node}
 use Rattle.road_graph.specs.Graphs.{IsGraph}
 use Rattle.road_graph.specs.Walks.{IsDist, NoWalk}
 use Rattle.upward_search.specs.declared.arc.RankArc.{RankArc}
 use Rattle.upward_search.specs.declared.slope.Arc.{Arc}
 use Rattle.upward_search.specs.Chains.{arc}
-use Rattle.upward_search.specs.Fitting.{IsFitting}
-use Rattle.upward_search.specs.Ladders.{Ladder}
+use Rattle.upward_search.specs.Fitting.{AreArcs, IsFitting}
+use Rattle.upward_search.specs.Rows.{row}
+use Rattle.upward_search.specs.Climbs.{IsIn}
+use Rattle.upward_search.specs.Ladders.{Ladder, IsAt, IsRoadArc, IsTop}
 
 -- the rank of each node, and the arcs
 pub record Ranking : Type 0 where
@@ -53,6 +55,15 @@ arcs_by make p (row ∷ rows) = map (make p) row ++ arcs_by make (suc p) rows
 -- the places as ranks, and the arcs between nodes
 abbrev pub ranking_of : Ladder → Ranking
 ranking_of l = record { ranks = l.places; climbing = arcs_by (climbing_arc l.nodes) 0 l.climbs; falling = arcs_by (falling_arc l.nodes) 0 l.falls }
+
+-- the hierarchy fits the graph, by its places
+pub record LadderFits (g : Roads) (h : Ladder) : Type 0 where
+  pub graph : IsGraph g
+  pub nodes : (p : ℕ) (n : NodeNo) → IsAt h p n → IsNode g n
+  pub climbing : (p : ℕ) (a : Arc) → IsIn (row h.climbs p) a → p ≤ a.middle → IsRoadArc g h p a.to a.length
+  pub falling : (p : ℕ) (a : Arc) → IsIn (row h.falls p) a → p ≤ a.middle → IsRoadArc g h a.to p a.length
+  pub arcs : AreArcs g (ranking_of h).ranks (ranking_of h).climbing (ranking_of h).falling
+  pub covers : (p q : ℕ) (u v : NodeNo) (x : ℕ) → IsAt h p u → IsAt h q v → IsDist g u v x → IsTop h p q x
 
 -- nodes 2, 1 and 3 in rising rank, with roads from 2 to 1 and to 3, and an arc from 1 over 2 to 3
 two_rows : arcs_by (climbing_arc (node 2 ∷ node 1 ∷ node 3 ∷ [])) 0 ((record { to = 1; middle = 1; length = 7 } ∷ record { to = 2; middle = 2; length = 5 } ∷ []) ∷ (record { to = 2; middle = 0; length = 12 } ∷ []) ∷ [] ∷ [])

@@ -1,7 +1,6 @@
 use Rattle.std.specs.Prelude.{◌≡◌, ℕ, ◌+◌, ◌<◌, ◌≤◌, ◌^◌, ◌⊎◌, List, length, Option, Some, None, slice_get, slice_index}
 use Rattle.road_graph.specs.declared.road.NodeNo.{NodeNo}
-use Rattle.road_graph.specs.Roads.{Roads, IsNode, least_weight}
-use Rattle.road_graph.specs.Graphs.{IsGraph}
+use Rattle.road_graph.specs.Roads.{Roads, least_weight}
 use Rattle.road_graph.specs.Walks.{IsDist, NoWalk}
 use Rattle.upward_search.specs.declared.slope.Arc.{Arc}
 use Rattle.upward_search.specs.declared.way.Way.{Way}
@@ -62,10 +61,6 @@ pub record IsRoadArc (g : Roads) (h : Ladder) (from to length : ℕ) : Type 0 wh
   pub ends : IsAt h to v
   pub weight : least_weight g.roads u v ≡ Some length
 
--- an arc from one place to another with this middle, which is a road where the middle isn't below both ends
-abbrev pub IsArcOf : Roads → Ladder → ℕ → ℕ → ℕ → ℕ → Type 0
-IsArcOf g h from to length middle = IsRoadArc g h from to length ⊎ IsOverPlace h from to middle length
-
 -- a way over the highest place of a walk
 pub record IsTop (h : Ladder) (p q x : ℕ) : Type 0 where
   pub top : ℕ
@@ -74,13 +69,6 @@ pub record IsTop (h : Ladder) (p q x : ℕ) : Type 0 where
   pub down : List Arc
   pub falls : IsClimb h.falls q top down
   pub sum : climb_length up + climb_length down ≡ x
-
-pub record LadderFits (g : Roads) (h : Ladder) : Type 0 where
-  pub graph : IsGraph g
-  pub nodes : (p : ℕ) (n : NodeNo) → IsAt h p n → IsNode g n
-  pub climbing : (p : ℕ) (a : Arc) → IsIn (row h.climbs p) a → p ≤ a.middle → IsRoadArc g h p a.to a.length
-  pub falling : (p : ℕ) (a : Arc) → IsIn (row h.falls p) a → p ≤ a.middle → IsRoadArc g h a.to p a.length
-  pub covers : (p q : ℕ) (u v : NodeNo) (x : ℕ) → IsAt h p u → IsAt h q v → IsDist g u v x → IsTop h p q x
 
 -- the least of these ways, where only lengths below 2^53 count
 abbrev pub IsLeastTop : Ladder → ℕ → ℕ → Option ℕ → Type 0

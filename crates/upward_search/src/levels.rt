@@ -5,7 +5,8 @@ ghost use Rattle.upward_search.specs.Climbs.{IsIn, IsRisingWithin, IsSpace, Read
 ghost use Rattle.upward_search.specs.Rows.{row as row_at};
 ghost use Rattle.upward_search.specs.WaysBack.{IsWayBackFrom};
 ghost use Rattle.upward_search.specs.Rests.{AreRests, IsRestAt, IsOverArc};
-ghost use Rattle.upward_search.specs.Ladders.{climbs_by, faced, IsLeastTop, ReadsTwoSpaces, IsWithinTwoSpaces, IsNamed, IsAt, IsLadder, AreApart, ArePlaces, LadderFits};
+ghost use Rattle.upward_search.specs.Ladders.{climbs_by, faced, IsLeastTop, ReadsTwoSpaces, IsWithinTwoSpaces, IsNamed, IsAt, IsLadder, AreApart, ArePlaces};
+ghost use Rattle.upward_search.specs.Hierarchies.{LadderFits};
 ghost use Rattle.upward_search.specs.Rows.{count_rows};
 ghost use Rattle.upward_search.specs.Names.{AreListed, AreRising, AreRestsBy, AreIn, label_by, AreNamed};
 

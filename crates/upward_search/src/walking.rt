@@ -1,7 +1,8 @@
 ghost use Rattle.std.specs.Prelude.{◌≡◌, ℕ, ◌+◌, ◌<◌, ◌≤◌, ◌^◌, List, [], length, IfOk, MatchOption, slice_get, Some, None};
 ghost use Rattle.upward_search.specs.declared.slope.Label.{Label as LabelOf};
 ghost use Rattle.upward_search.specs.Climbs.{IsRising, IsIn};
-ghost use Rattle.upward_search.specs.Ladders.{Ladder, IsLeastTop, IsNamed, LadderFits};
+ghost use Rattle.upward_search.specs.Ladders.{Ladder, IsLeastTop, IsNamed};
+ghost use Rattle.upward_search.specs.Hierarchies.{LadderFits};
 ghost use Rattle.upward_search.specs.Names.{AreNamed};
 ghost use Rattle.road_graph.specs.Walks.{NoWalk, IsLeastWalk};
 ghost use Rattle.upward_search.specs.Sums.{Common};
