@@ -14,6 +14,7 @@ mod WaysAlong
 mod InFleet
 mod WalksOf
 mod AreEntries
+mod IsListed
 mod ChangedWalks
 pub mod OfferLaws
 pub mod PriceLaws

@@ -15,7 +15,7 @@ use Rattle.insertion_cost.specs.declared.candidates.Candidates.{Candidates}
 use Rattle.insertion_cost.specs.declared.candidates.Floor.{Floor}
 use Rattle.insertion_cost.specs.declared.candidates.Floor.TheVariants.{Nothing, Above, All}
 use Rattle.insertion_cost.specs.declared.offer.Offer.{Offer}
-use Rattle.insertion_cost.specs.Offers.{IsOffer, IsOfferFrom, IsOfferNow, IsFirst, IsBest, NoOffer, offer_cmp}
+use Rattle.insertion_cost.specs.Offers.{IsOffer, IsOfferFrom, IsOfferNow, IsFirst, IsBest, NoOffer, IsBestOrNone, offer_cmp}
 use Rattle.insertion_cost.specs.OfferOrder.{IsNotAfter, IsFirstOfTwo}
 use Rattle.insertion_cost.specs.Candidates.{entry_of, IsTrueOf, AreSound, AreFresh, IsDecided, IsListed, Decides, is_same_front, has_moved, is_redone, best_in, CountsAs, Counts, Settles, none_at, is_decided}
 use Rattle.insertion_cost.proofs.OfferCmp.{offer_cmp-self, IsNotAfter-trans}
@@ -110,6 +110,11 @@ first_is_best g fleet r o f = record { feasible = f.0; least = f.1 }
 pub none_is_none : (g : Roads) (fleet : Cars) (r : Request) → IsFirst (IsOffer g fleet r) None → NoOffer g fleet r
 none_is_none g fleet r f = f
 
+-- in one word
+pub best_or_none : (g : Roads) (fleet : Cars) (r : Request) (best : Option Offer) → IsFirst (IsOffer g fleet r) best → IsBestOrNone g fleet r best
+best_or_none g fleet r None f = none_is_none g fleet r f
+best_or_none g fleet r (Some o) f = first_is_best g fleet r o f
+
 -- one offer alone is the first of itself
 pub first_alone : (b : Option Offer) → IsFirst (λ (o : Offer). b ≡ Some o) b
 first_alone None = λ o e. cc
@@ -199,6 +204,15 @@ entry_listed (x ∷ entries) zero e h once = let same : x ≡ e = cc in cond-tru
 entry_listed (x ∷ entries) (suc k) e h once = cond-false _ _ _ (ne_eqb x.place e.place (λ same. let bad = once 0 (suc k) x e refl h same in absurd (omega arith)))
     ∙ entry_listed entries k e h (λ m l f h' a b s. (let n = once (suc m) (suc l) f h' a b s in omega arith))
 
+-- the entry of a vehicle is listed
+pub entry_found : (entries : List Candidate) (place : ℕ) (x : Candidate) → entry_of entries place ≡ Some x → (k : ℕ) × (slice_get entries k ≡ Some x) × (x.place ≡ place)
+entry_found [] place x h = cc
+entry_found (y ∷ entries) place x h = on (y.place == place) refl h (entry_found entries place x) where
+  on : (b : Bool) → (y.place == place) ≡ b → cond b (Some y) (entry_of entries place) ≡ Some x → (entry_of entries place ≡ Some x → (k : ℕ) × (slice_get entries k ≡ Some x) × (x.place ≡ place))
+      → (k : ℕ) × (slice_get (y ∷ entries) k ≡ Some x) × (x.place ≡ place)
+  on true e h rest = let q : y ≡ x = cc in (0, h, subst (λ (z : Candidate). z.place ≡ place) q (eqb-true _ _ e))
+  on false e h rest = let z = rest h in (suc z.0, z.1, z.2)
+
 -- what is read past the end of a fleet
 no_car : Car
 no_car = record { no = record { 0 = 0 }; plan = record { seats = 0; spaces = 0; until = 0; place = record { 0 = 0 }; departure = 0; halt = false; stops = []; legs = [] }; stamp = 0 }
@@ -217,17 +231,9 @@ module _ (g : Roads) (fleet : Cars) (r : Request) (c : Candidates) (fresh : AreF
     still : (entry : Option Candidate) → entry_of c.entries place ≡ entry → has_moved (front_of car.plan fleet.clock) entry ≡ false
     still None e = refl
     still (Some x) e =
-        let at = found_entry c.entries place x e in
+        let at = entry_found c.entries place x e in
         let front = fresh.fronts at.0 x car at.1 (ap (slice_get fleet.cars) at.2 ∙ h) in
         subst (λ (f : Front). not (is_same_front f (front_of car.plan fleet.clock)) ≡ false) (sym front) (ap not (front-self (front_of car.plan fleet.clock)))
-      where
-        found_entry : (entries : List Candidate) (place : ℕ) (x : Candidate) → entry_of entries place ≡ Some x → (k : ℕ) × (slice_get entries k ≡ Some x) × (x.place ≡ place)
-        found_entry [] place x h = cc
-        found_entry (y ∷ entries) place x h = on (y.place == place) refl h (found_entry entries place x) where
-          on : (b : Bool) → (y.place == place) ≡ b → cond b (Some y) (entry_of entries place) ≡ Some x → (entry_of entries place ≡ Some x → (k : ℕ) × (slice_get entries k ≡ Some x) × (x.place ≡ place))
-              → (k : ℕ) × (slice_get (y ∷ entries) k ≡ Some x) × (x.place ≡ place)
-          on true e h rest = let q : y ≡ x = cc in (0, h, subst (λ (z : Candidate). z.place ≡ place) q (eqb-true _ _ e))
-          on false e h rest = let z = rest h in (suc z.0, z.1, z.2)
 
   -- what is listed counts
   listed_counts : (o : Offer) → IsListed c.entries o → Counts g fleet r c o
@@ -244,6 +250,13 @@ module _ (g : Roads) (fleet : Cars) (r : Request) (c : Candidates) (fresh : AreF
     is : best_in (entry_of c.entries e.place) ≡ Some o
     is = ap best_in (entry_listed c.entries l.0 l.1 l.2 fresh.sound.once) ∙ l.3
 
+  -- and nothing else does
+  counted_listed : (o : Offer) → Counts g fleet r c o → IsListed c.entries o
+  counted_listed o k = on (entry_of c.entries k.place) refl (subst (CountsAs g fleet r k.place k.car (entry_of c.entries k.place) o) (none_redone k.place k.car k.stands) k.is) where
+    on : (entry : Option Candidate) → entry_of c.entries k.place ≡ entry → best_in entry ≡ Some o → IsListed c.entries o
+    on None e h = cc
+    on (Some x) e h = let at = entry_found c.entries k.place x e in (at.0, x, at.1, h)
+
   -- Fresh candidates that decide settle.
   pub fresh_settle : Decides c → Settles g fleet r c
   fresh_settle d = on c.floor d where
@@ -251,3 +264,10 @@ module _ (g : Roads) (fleet : Cars) (r : Request) (c : Candidates) (fresh : AreF
     on Nothing d = absurd d
     on (Above x) d = (d.0, listed_counts d.0 d.1, d.2)
     on All d = tt
+
+  -- and the first of what they list is the best insertion
+  pub listed_best : (best : Option Offer) → Decides c → IsFirst (IsListed c.entries) best → IsBestOrNone g fleet r best
+  listed_best best d f = best_or_none g fleet r best (settled g fleet r c fresh.sound best (fresh_settle d) (counted best f)) where
+    counted : (best : Option Offer) → IsFirst (IsListed c.entries) best → IsFirst (Counts g fleet r c) best
+    counted None f = λ o k. f o (counted_listed o k)
+    counted (Some b) f = (listed_counts b f.0, λ other k. f.1 other (counted_listed other k))

@@ -6,13 +6,13 @@ use Rattle.stop_schedule.specs.declared.stop.Front.{Front}
 use Rattle.stop_schedule.specs.Rates.{usual}
 use Rattle.stop_schedule.specs.Samples.{opened}
 use Rattle.stop_schedule.specs.Fronts.{front_of}
-use Rattle.stop_schedule.specs.Fleets.{Car, Cars}
+use Rattle.stop_schedule.specs.Fleets.{Car, Cars, IsGoodFleet}
 use Rattle.insertion_cost.specs.declared.candidates.Candidate.{Candidate}
 use Rattle.insertion_cost.specs.declared.candidates.Candidates.{Candidates}
 use Rattle.insertion_cost.specs.declared.candidates.Floor.{Floor}
 use Rattle.insertion_cost.specs.declared.candidates.Floor.TheVariants.{Nothing, Above, All}
 use Rattle.insertion_cost.specs.declared.offer.Offer.{Offer}
-use Rattle.insertion_cost.specs.Offers.{IsOfferFrom, IsOfferNow, IsFirst}
+use Rattle.insertion_cost.specs.Offers.{IsOfferFrom, IsOfferNow, IsFirst, IsBestOrNone}
 
 -- of none anything is known
 abbrev pub none_at : ℕ → Candidates
@@ -56,6 +56,10 @@ IsListed entries o = (k : ℕ) × (e : Candidate) × (slice_get entries k ≡ So
 -- the best listed offer is the best of all
 abbrev pub Decides : Candidates → Type 0
 Decides c = IsDecided c.floor (IsListed c.entries)
+
+-- an offer or none is the best insertion of every good fleet for which the candidates are fresh and decide
+abbrev pub IsBestWhereFresh : Candidates → Option Offer → Type 0
+IsBestWhereFresh c best = (g : Roads) (fleet : Cars) (r : Request) → IsGoodFleet g fleet → AreFresh g fleet r c → Decides c → IsBestOrNone g fleet r best
 
 abbrev pub is_same_front : Front → Front → Bool
 is_same_front a b = (a.node.0 == b.node.0) && (a.time == b.time) && (a.offset == b.offset)

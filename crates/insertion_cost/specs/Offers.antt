@@ -63,6 +63,11 @@ pub record IsBest (g : Roads) (fleet : Cars) (r : Request) (o : Offer) : Type 0 
 abbrev pub NoOffer : Roads → Cars → Request → Type 0
 NoOffer g fleet r = (o : Offer) → IsOffer g fleet r o → ⊥
 
+-- the best insertion, or none where none is feasible
+abbrev pub IsBestOrNone : Roads → Cars → Request → Option Offer → Type 0
+IsBestOrNone g fleet r None = NoOffer g fleet r
+IsBestOrNone g fleet r (Some o) = IsBest g fleet r o
+
 -- the best insertion into the schedule of the vehicle at one place alone
 pub record IsBestOf (g : Roads) (fleet : Cars) (r : Request) (place : ℕ) (o : Offer) : Type 0 where
   pub feasible : IsOffer g fleet r o

@@ -1,7 +1,8 @@
 ghost use Rattle.std.specs.Prelude.{◌≡◌, ◌||◌, nat_lt};
-ghost use Rattle.insertion_cost.specs.Candidates.{has_moved, is_decided as the_test, none_at};
+ghost use Rattle.insertion_cost.specs.Candidates.{has_moved, is_decided as the_test, none_at, IsListed, IsBestWhereFresh};
+ghost use Rattle.insertion_cost.specs.Offers.{IsFirst};
 
-use crate::offer::Offer;
+use crate::offer::{Offer, first_of_two};
 use ride_base::Items;
 use std::alloc::Global;
 use stop_schedule::Front;
@@ -50,6 +51,19 @@ impl Candidates {
             floor: Floor::Nothing,
         }
     }
+}
+
+/// The first of the listed offers, in the order of offers. None where no vehicle is listed with one.
+pub fn best_listed(candidates: &Candidates) -> Option<Offer>
+    ensures listed { IsFirst (IsListed candidates.now.entries) result }
+    ensures best { IsBestWhereFresh candidates.now result }
+{
+    let entries = candidates.entries.as_slice();
+    let mut best = None;
+    for entry in entries {
+        best = first_of_two(best, entry.best);
+    }
+    best
 }
 
 /// Whether the best of some offers is the best of all, by what is known of the vehicles that aren't listed.

@@ -1,8 +1,9 @@
 //! What it costs to take a request, and which offer is the best.
 //!
 //! The layers above use that `price` is the definition's price of one pair of places, that `best_from` is the best offer of one vehicle
-//! over all pairs, that what a `Pricer` gives is fresh for its view and decides, and that its walks are least walks of the changed legs.
-//! `PlainPricer` prices so by whole searches. `prices_are_monotone` names the laws of longer legs and of later fronts.
+//! over all pairs, that what a `Pricer` gives is fresh for its view and decides, that the best listed offer is then the best insertion
+//! (`best_listed`), and that a pricer's walks are least walks of the changed legs. `PlainPricer` prices so by whole searches.
+//! `prices_are_monotone` names the laws of longer legs and of later fronts.
 #![tactic(auto)]
 
 mod candidates;
@@ -19,7 +20,7 @@ mod pricing;
 mod searches;
 mod spans;
 
-pub use candidates::{Candidate, Candidates, Floor, is_decided, is_redone};
+pub use candidates::{Candidate, Candidates, Floor, best_listed, is_decided, is_redone};
 pub use decision::{Assigned, Decision};
 pub use laws::prices_are_monotone;
 pub use node_ways::NodeWays;
