@@ -1,6 +1,6 @@
-use Rattle.std.proofs.Common.{◌≡◌, ℕ, zero, suc, ◌+◌, List, [], ◌∷◌, ◌++◌, length, get_or, Option, Some, None, refl, sym, ap, ◌∙◌, subst, arith, ◌⊎◌, inl, inr, ⊎_elim, length-append}
+use Rattle.std.proofs.Common.{◌≡◌, ℕ, ◌+◌, List, [], ◌∷◌, ◌++◌, length, get_or, Option, Some, None, refl, sym, ap, ◌∙◌, subst, arith, ⊎_elim, length-append}
 use Rattle.std.specs.Prelude.{slice_get}
-use Rattle.std.proofs.lemmas.Option.{slice_get-get_or, slice_get_within, same_Some}
+use Rattle.std.proofs.lemmas.Option.{slice_get-get_or, slice_get_within}
 use Rattle.road_graph.specs.Roads.{Roads}
 use Rattle.stop_schedule.specs.declared.request.Request.{Request}
 use Rattle.stop_schedule.specs.declared.stop.Front.{Front}
@@ -11,26 +11,11 @@ use Rattle.insertion_cost.specs.Candidates.{AreFresh, IsTrueOf, entry_of}
 use Rattle.insertion_cost.specs.Offers.{IsOfferFrom, IsFirst}
 use Rattle.insertion_cost.specs.Pricers.{IsEntryAt, AreEntriesTo}
 use Rattle.insertion_cost.proofs.InFleet.{car_at}
+use Rattle.insertion_cost.proofs.Pushed.{push_cases}
 use Rattle.insertion_cost.proofs.Settles.{entry_listed}
 
 no_entry : Candidate
 no_entry = record { place = 0; front = record { node = record { 0 = 0 }; time = 0; offset = 0 }; best = None }
-
--- what stands in a list with one entry more
-pub push_cases : (entries : List Candidate) (e f : Candidate) (k : ℕ) → slice_get (entries ++ e ∷ []) k ≡ Some f → (slice_get entries k ≡ Some f) ⊎ ((k ≡ length entries) × (e ≡ f))
-push_cases [] e f zero h = inr (refl, same_Some e f h)
-push_cases [] e f (suc k) h = cc
-push_cases (x ∷ xs) e f zero h = inl h
-push_cases (x ∷ xs) e f (suc k) h = ⊎_elim (λ a. inl a) (λ b. inr (ap (λ (n : ℕ). suc n) b.0, b.1)) (push_cases xs e f k h)
-
-pub push_before : (entries : List Candidate) (e f : Candidate) (k : ℕ) → slice_get entries k ≡ Some f → slice_get (entries ++ e ∷ []) k ≡ Some f
-push_before [] e f k h = cc
-push_before (x ∷ xs) e f zero h = h
-push_before (x ∷ xs) e f (suc k) h = push_before xs e f k h
-
-pub push_last : (entries : List Candidate) (e : Candidate) → slice_get (entries ++ e ∷ []) (length entries) ≡ Some e
-push_last [] e = refl
-push_last (x ∷ xs) e = push_last xs e
 
 module _ (g : Roads) (fleet : Cars) (r : Request) where
   -- of no vehicle

@@ -9,7 +9,7 @@ use Rattle.insertion_cost.specs.declared.offer.Offer.{Offer}
 use Rattle.insertion_cost.specs.Candidates.{AreFresh, IsListed, Decides}
 use Rattle.insertion_cost.specs.OfferOrder.{IsFirstOfTwo}
 use Rattle.insertion_cost.specs.Offers.{IsFirst, IsBestOrNone}
-use Rattle.insertion_cost.proofs.AreEntries.{push_cases, push_before, push_last}
+use Rattle.insertion_cost.proofs.Pushed.{push_cases, push_before, push_last}
 use Rattle.insertion_cost.proofs.Settles.{first_alone, first_of_both, listed_best}
 
 -- nothing stands in an empty list

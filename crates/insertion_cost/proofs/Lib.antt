@@ -13,8 +13,11 @@ mod IsTried
 mod WaysAlong
 mod InFleet
 mod WalksOf
+mod Pushed
 mod AreEntries
 mod IsListed
+mod InGraph
+mod BestPlain
 mod ChangedWalks
 pub mod OfferLaws
 pub mod PriceLaws

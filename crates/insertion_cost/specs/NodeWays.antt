@@ -1,7 +1,7 @@
-use Rattle.std.specs.Prelude.{◌≡◌, ℕ, ◌+◌, ◌<◌, ◌↔◌, List, length, Option, Some, None, IsSome, MatchOption, slice_get}
+use Rattle.std.specs.Prelude.{◌≡◌, ℕ, ◌+◌, ◌<◌, ◌≤◌, ◌↔◌, List, length, Option, Some, None, IsSome, MatchOption, slice_get}
 use Rattle.road_graph.specs.declared.road.NodeNo.{NodeNo}
 use Rattle.road_graph.specs.Graphs.{IsGraph}
-use Rattle.road_graph.specs.Roads.{Roads}
+use Rattle.road_graph.specs.Roads.{Roads, IsNode}
 use Rattle.road_graph.specs.Walks.{IsDist, NoWalk}
 use Rattle.stop_schedule.specs.declared.request.Request.{Request}
 use Rattle.stop_schedule.specs.declared.stop.Front.{Front}
@@ -28,6 +28,15 @@ pub record AreWaysOf (g : Roads) (r : Request) (n : NodeNo) (w : NodeWays) : Typ
   pub from_pickup : IsDistOrNone g r.pickup n w.from_pickup
   pub to_dropoff : IsDistOrNone g n r.dropoff w.to_dropoff
   pub from_dropoff : IsDistOrNone g r.dropoff n w.from_dropoff
+
+-- the front's node and that of each stop are nodes of the graph
+abbrev pub AreNodesOf : Roads → Front → List Stop → Type 0
+AreNodesOf g front stops = (k : ℕ) → k ≤ length stops → IsNode g (node_at front stops k)
+
+-- these distances of the first n of them, the front's node among them
+pub record AreWaysTo (g : Roads) (r : Request) (front : Front) (stops : List Stop) (n : ℕ) (ways : List NodeWays) : Type 0 where
+  pub many : length ways ≡ n
+  pub each : (k : ℕ) (w : NodeWays) → slice_get ways k ≡ Some w → AreWaysOf g r (node_at front stops k) w
 
 -- what a vehicle is priced by over a graph: the direct way of a request, and the distances of the front's node and of each stop's
 pub record AreWaysAlong (g : Roads) (r : Request) (front : Front) (stops : List Stop) (direct : ℕ) (ways : List NodeWays) : Type 0 where

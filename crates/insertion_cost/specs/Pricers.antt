@@ -1,4 +1,4 @@
-use Rattle.std.specs.Prelude.{◌≡◌, ℕ, ◌≤◌, List, length, Some, slice_get}
+use Rattle.std.specs.Prelude.{◌≡◌, ℕ, ◌≤◌, List, length, Option, Some, slice_get}
 use Rattle.road_graph.specs.Graphs.{IsGraph}
 use Rattle.road_graph.specs.Roads.{Roads, IsNode}
 use Rattle.stop_schedule.specs.declared.request.Request.{Request}
@@ -29,6 +29,10 @@ pub record IsSearchedFor (fleet : Cars) (r : Request) (s : Searches) : Type 0 wh
   pub good : IsGoodFleet graph fleet
   pub searches : AreSearchesOf graph r s
   pub moment : r.moment ≤ latest_moment
+
+-- the best offer of the vehicle in a place, or none
+abbrev pub IsBestAt : Roads → Cars → Request → ℕ → Option Offer → Type 0
+IsBestAt g fleet r place best = OfCar fleet place (λ (car : Car). IsFirst (IsOfferNow g fleet place car r) best)
 
 -- the entry of a vehicle in its place: its front, and its best offer from there
 pub record IsEntryOf (g : Roads) (fleet : Cars) (r : Request) (place : ℕ) (car : Car) (e : Candidate) : Type 0 where

@@ -1,13 +1,13 @@
 ghost use Rattle.std.specs.Prelude.{◌≡◌, ◌+◌, ◌<◌, ◌≤◌, length, IsOk, IfOk};
 ghost use Rattle.road_graph.specs.Roads.{Roads};
 ghost use Rattle.stop_schedule.specs.Distances.{AreLeastWalks};
-ghost use Rattle.stop_schedule.specs.Fleets.{IsGoodView, OfCar};
+ghost use Rattle.stop_schedule.specs.Fleets.{IsGoodView};
 ghost use Rattle.stop_schedule.specs.Fronts.{front_of};
 ghost use Rattle.stop_schedule.specs.Lists.{changed_ends};
 ghost use Rattle.insertion_cost.specs.Candidates.{AreFresh, Decides};
 ghost use Rattle.insertion_cost.specs.NodeWays.{IsDistOrNone};
-ghost use Rattle.insertion_cost.specs.Offers.{IsFirst, IsOffer, IsOfferNow};
-ghost use Rattle.insertion_cost.specs.Pricers.{IsRequestIn, AreWalksOf};
+ghost use Rattle.insertion_cost.specs.Offers.{IsOffer};
+ghost use Rattle.insertion_cost.specs.Pricers.{AreWalksOf, IsBestAt, IsRequestIn};
 
 use crate::candidates::Candidates;
 use crate::offer::Offer;
@@ -30,7 +30,8 @@ pub trait Pricer<F: FleetView> {
         request: &Request,
         steps: &mut Steps<L>,
     ) -> Result<Candidates, NoMemory>
-        requires view { IsGoodView (F.Index.fits (F.index_of view.now)) (graph self.now) (F.fleet view.now) }
+        requires view { IsGoodView
+            (F.Index.fits (F.index_of view.now)) (graph self.now) (F.fleet view.now) }
         requires request { IsRequestIn (graph self.now) request.now }
         ensures fresh { IfOk result (AreFresh (graph self.now) (F.fleet view.now) request.now) }
         ensures decides { IfOk result Decides }
@@ -48,11 +49,12 @@ pub trait Pricer<F: FleetView> {
         request: &Request,
         steps: &mut Steps<L>,
     ) -> Result<Option<Offer>, NoMemory>
-        requires view { IsGoodView (F.Index.fits (F.index_of view.now)) (graph self.now) (F.fleet view.now) }
+        requires view { IsGoodView
+            (F.Index.fits (F.index_of view.now)) (graph self.now) (F.fleet view.now) }
         requires request { IsRequestIn (graph self.now) request.now }
         requires place { place < length (F.fleet view.now).cars }
-        ensures best { IfOk result (λ best. OfCar (F.fleet view.now) place
-            (λ car. IsFirst (IsOfferNow (graph self.now) (F.fleet view.now) place car request.now) best)) }
+        ensures best { IfOk result
+            (IsBestAt (graph self.now) (F.fleet view.now) request.now place) }
         ensures steps { steps.old.0 ≤ steps.new.0 }
         ensures asks { IsOk result → steps.new.1 ≡ steps.old.1 + 1 }
         ensures few { steps.new.1 ≤ steps.old.1 + 1 }
@@ -82,7 +84,8 @@ pub trait Pricer<F: FleetView> {
         offer: &Offer,
         steps: &mut Steps<L>,
     ) -> Result<NewWalks, NoMemory>
-        requires view { IsGoodView (F.Index.fits (F.index_of view.now)) (graph self.now) (F.fleet view.now) }
+        requires view { IsGoodView
+            (F.Index.fits (F.index_of view.now)) (graph self.now) (F.fleet view.now) }
         requires request { IsRequestIn (graph self.now) request.now }
         requires offer { IsOffer (graph self.now) (F.fleet view.now) request.now offer.now }
         ensures walks { IfOk result
