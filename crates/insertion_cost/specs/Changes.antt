@@ -1,10 +1,12 @@
-use Rattle.std.specs.Prelude.{◌≡◌, ℕ, List, map, sum_by, refl}
+use Rattle.std.specs.Prelude.{◌≡◌, ℕ, List, map, sum_by, if◌then◌else◌, Some, None, refl}
 use Rattle.road_graph.specs.Paths.{Path, length_of}
 use Rattle.stop_schedule.specs.declared.request.Request.{Request}
 use Rattle.stop_schedule.specs.declared.stop.Insertion.{Insertion}
 use Rattle.stop_schedule.specs.declared.stop.SeatKind.{SeatKind}
 use Rattle.stop_schedule.specs.declared.stop.SeatKind.TheVariants.{Seat, Space}
+use Rattle.stop_schedule.specs.declared.stop.Start.{Start}
 use Rattle.stop_schedule.specs.declared.stop.Stop.{Stop}
+use Rattle.stop_schedule.specs.Plans.{Plan, Course, course_of}
 use Rattle.stop_schedule.specs.Lists.{with_both, with_legs, pickup_of, dropoff_of, unpromised}
 use Rattle.stop_schedule.specs.Samples.{first, ride, at}
 use Rattle.stop_schedule.specs.Times.{getting_on, getting_off}
@@ -28,6 +30,10 @@ boarding seat stops = sum_by (λ (s : Stop). getting_on seat s s.kind) stops
 
 abbrev pub alighting : SeatKind → List Stop → ℕ
 alighting seat stops = sum_by (λ (s : Stop). getting_off seat s s.kind) stops
+
+-- the course of a schedule's stops from where a new list starts
+abbrev pub course_from : Start → Plan → Course
+course_from start p = record (course_of p) { halt = if start.halt then Some start.node else None; departure = start.departure }
 
 -- one more from 3 to 4 between the two stops of one rider
 two_board : boarding Seat (new_stops first.stops 1000 (ride 2 3 4 0 1) (at 1 1)) ≡ 2

@@ -41,6 +41,10 @@ abbrev pub priced : Rates → Plan → Front → Request → Insertion → ℕ �
 priced rates p front r at direct lengths =
     cond (is_feasible rates p front r at lengths) (Some (price_of rates p front r at direct (new_course p front r at lengths))) None
 
+-- The price of an insertion that has these times. Its cost isn't told, since no promise hangs on it.
+abbrev pub planned : ℕ → ℕ → Price
+planned leave arrive = record { cost = 0; leave = leave; arrive = arrive }
+
 -- What the riders of a request are promised when they are taken: the latest pickup and arrival, and the planned ones where these
 -- are later.
 abbrev pub promise_of : Rates → Request → ℕ → Price → Promise

@@ -44,8 +44,10 @@ pub fn drive_along(
     requires within { at.j ≤ length schedule.now.stops }
     requires spans { AreSpans (length schedule.now.stops) at spans.now }
     requires front { front.now.time ≤ latest_front }
-    ensures none { IfNone result (is_feasible params.now schedule.now front.now request.now at (lengths_of spans.now) ≡ false) }
-    ensures some { IfSome result (IsDriven params.now schedule.now front.now request.now at (lengths_of spans.now)) }
+    ensures none { IfNone result (is_feasible params.now schedule.now front.now request.now at
+        (lengths_of spans.now) ≡ false) }
+    ensures some { IfSome result
+        (IsDriven params.now schedule.now front.now request.now at (lengths_of spans.now)) }
 {
     let count = schedule.stops().len() + 2;
     if count > MOST_STOPS {

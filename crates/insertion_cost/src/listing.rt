@@ -12,7 +12,8 @@ pub fn new_stop(schedule: &Schedule, request: &Request, at: Insertion, k: usize)
     requires order { at.i ≤ at.j }
     requires within { at.j ≤ length schedule.now.stops }
     requires stop { k < length schedule.now.stops + 2 }
-    ensures value { slice_get (new_stops schedule.now.stops schedule.now.until request.now at) k ≡ Some result }
+    ensures value { slice_get
+        (new_stops schedule.now.stops schedule.now.until request.now at) k ≡ Some result }
 {
     let stops = schedule.stops();
     if k < at.i {
@@ -45,7 +46,8 @@ pub fn new_length(schedule: &Schedule, spans: &Spans, at: Insertion, k: usize) -
     requires spans { AreSpans (length schedule.now.stops) at spans.now }
     requires bounded { IsBounded schedule.now }
     requires stop { k < length schedule.now.stops + 2 }
-    ensures value { result ≡ slice_index (new_lengths schedule.now.legs at (lengths_of spans.now)) k }
+    ensures value { result
+        ≡ slice_index (new_lengths schedule.now.legs at (lengths_of spans.now)) k }
     ensures bound { result < 2 ^ 53 }
 {
     if k < at.i {

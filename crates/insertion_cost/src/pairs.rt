@@ -79,7 +79,8 @@ fn best_after_stop(
         → AreWaysAlong g request.now front.now schedule.now.stops direct ways.now
         → IsCarOf vehicle schedule.now car
         → IsBestOfTried g params.now vehicle.place car front.now request.now i i so_far
-        → IsBestOfTried g params.now vehicle.place car front.now request.now (i + 1) (i + 1) result }
+        → IsBestOfTried g params.now vehicle.place car front.now request.now (i + 1) (i + 1)
+        result }
 {
     let mut best = so_far;
     for j in i..ways.len() {

@@ -91,7 +91,8 @@ fn in_order(
     before_dropoff: Option<Walk>,
     after_dropoff: Option<Walk>,
 ) -> NewWalks
-    ensures { result ≡ before_pickup ∷ after_pickup ∷ option_to_list before_dropoff ++ option_to_list after_dropoff }
+    ensures { result ≡ before_pickup ∷ after_pickup
+        ∷ option_to_list before_dropoff ++ option_to_list after_dropoff }
 {
     let mut walks = NewWalks::new(alloc);
     walks.push(before_pickup);

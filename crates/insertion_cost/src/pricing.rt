@@ -1,10 +1,8 @@
-ghost use Rattle.std.specs.Prelude.{◌≡◌, ℕ, ◌+◌, ◌-◌, ◌*◌, ◌<◌, ◌≤◌, ◌^◌, length, option_map, IfSome, sum, map, ◌==◌, if◌then◌else◌, Some, None};
-ghost use Rattle.road_graph.specs.Paths.{length_of};
+ghost use Rattle.std.specs.Prelude.{◌≡◌, ℕ, ◌+◌, ◌-◌, ◌*◌, ◌<◌, ◌≤◌, ◌^◌, length, option_map, IfSome, ◌==◌, if◌then◌else◌};
 ghost use Rattle.stop_schedule.specs.Limits.{latest_moment, latest_front, end_of_time};
 ghost use Rattle.stop_schedule.specs.Lists.{old_course};
-ghost use Rattle.stop_schedule.specs.Plans.{course_of};
-ghost use Rattle.stop_schedule.specs.Times.{stop_times};
-ghost use Rattle.insertion_cost.specs.Prices.{priced, busy_time, promise_of};
+ghost use Rattle.insertion_cost.specs.Changes.{course_from};
+ghost use Rattle.insertion_cost.specs.Prices.{priced, busy_time, planned, promise_of};
 ghost use Rattle.insertion_cost.specs.Spans.{AreSpans, lengths_of, price_from};
 
 use crate::driving::drive_along;
@@ -38,7 +36,8 @@ pub fn price(
     requires moment { request.now.moment ≤ latest_moment }
     requires front { front.now.time ≤ latest_front }
     requires offset { front.now.offset < 2 ^ 53 }
-    ensures value { option_map price_from result ≡ priced params.now schedule.now front.now request.now at direct (lengths_of spans.now) }
+    ensures value { option_map price_from result
+        ≡ priced params.now schedule.now front.now request.now at direct (lengths_of spans.now) }
     ensures cost { IfSome result (λ p. p.cost < 2 ^ 58) }
     ensures leave { IfSome result (λ p. p.leave ≤ latest_moment) }
     ensures arrive { IfSome result (λ p. p.arrive ≤ latest_moment) }
@@ -66,8 +65,7 @@ pub fn promise(params: &Params, request: &Request, direct: u64, leave: u64, arri
     requires direct { direct < 2 ^ 53 }
     requires leave { leave < end_of_time }
     requires arrive { arrive < end_of_time }
-    // it doesn't hang on the cost
-    ensures value { result ≡ promise_of params.now request.now direct (record { cost = 0; leave = leave; arrive = arrive }) }
+    ensures value { result ≡ promise_of params.now request.now direct (planned leave arrive) }
     ensures pickup { result.pickup < end_of_time }
     ensures arrival { result.arrival < end_of_time }
 {
@@ -82,7 +80,8 @@ fn detour(schedule: &Schedule, front: &Front, params: &Params, new: u64, at: Ins
     requires time { front.now.time ≤ latest_front }
     requires offset { front.now.offset < 2 ^ 53 }
     requires new { new ≤ 2 ^ 41 }
-    ensures value { result ≡ (if at.i == 0 then front.now.offset else 0) + new - busy_time params.now.stop (old_course schedule.now front.now at) }
+    ensures value { result ≡ (if at.i == 0 then front.now.offset else 0) + new
+        - busy_time params.now.stop (old_course schedule.now front.now at) }
     ensures bound { result ≤ 2 ^ 54 }
 {
     let start = schedule.start(front, at);
@@ -92,7 +91,7 @@ fn detour(schedule: &Schedule, front: &Front, params: &Params, new: u64, at: Ins
 
 /// The lengths of all legs and the times of all stops together, where the vehicle starts from there.
 fn busy_time_of(schedule: &Schedule, params: &Params, start: &Start) -> u64
-    ensures value { result ≡ sum (map length_of schedule.now.legs) + stop_times params.now.stop (record (course_of schedule.now) { halt = if start.now.halt then Some start.now.node else None; departure = start.now.departure }) (length schedule.now.stops) }
+    ensures value { result ≡ busy_time params.now.stop (course_from start.now schedule.now) }
     ensures bound { result ≤ 2 ^ 60 }
 {
     let mut busy_time = 0;
