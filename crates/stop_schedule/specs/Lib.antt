@@ -1,6 +1,7 @@
 pub mod Limits
 pub mod Rates
 pub mod Plans
+pub mod ScheduleFields
 pub mod Times
 pub mod Fronts
 pub mod Lists

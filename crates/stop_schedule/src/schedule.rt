@@ -35,15 +35,17 @@ pub struct Schedule {
 
 impl Model for Schedule {
     ghost use Rattle.stop_schedule.specs.Plans.{Plan};
-    ghost use Rattle.stop_schedule.specs.Bounds.{IsBounded};
 
     ghost Value = { Plan };
 
-    ghost view = { λ s. record { seats = s.seats; spaces = s.spaces; until = s.until; place = s.place; departure = s.departure; halt = s.halt; stops = s.stops; legs = s.legs } };
+    ghost use Rattle.stop_schedule.specs.Bounds.{IsBounded};
+    ghost use Rattle.stop_schedule.specs.ScheduleFields.{fields_of, plan_in};
 
-    ghost inverse = { λ p. record { seats = p.seats; spaces = p.spaces; until = p.until; place = p.place; departure = p.departure; halt = p.halt; stops = p.stops; legs = p.legs } };
+    ghost view = { plan_in };
 
-    ghost invariant = { λ s. IsBounded (record { seats = s.seats; spaces = s.spaces; until = s.until; place = s.place; departure = s.departure; halt = s.halt; stops = s.stops; legs = s.legs }) };
+    ghost inverse = { fields_of };
+
+    ghost invariant = { λ s. IsBounded (plan_in s) };
 }
 
 impl Schedule {
