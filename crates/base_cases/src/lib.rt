@@ -12,6 +12,8 @@ mod plans;
 #[cfg(test)]
 mod prices;
 #[cfg(test)]
+mod reckonings;
+#[cfg(test)]
 mod schedules;
 #[cfg(test)]
 mod searches;

@@ -51,7 +51,7 @@ fn ends(schedule: &Schedule, time: u64) -> bool {
 }
 
 /// Whether each walk is short enough for a schedule.
-fn are_short(walks: &[Walk]) -> bool
+pub fn are_short(walks: &[Walk]) -> bool
     ensures { IsTrue result → AreShortLegs walks.now }
 {
     for walk in walks {
