@@ -11,6 +11,8 @@ mod ChangedEnds
 mod SpansOf
 mod IsTried
 mod WaysAlong
+mod WholeReach
+mod PlainAnswer
 mod InFleet
 mod WalksOf
 mod Pushed

@@ -13,7 +13,10 @@ use Rattle.stop_schedule.specs.Limits.{latest_moment}
 use Rattle.road_graph.specs.declared.road.NodeNo.{NodeNo}
 use Rattle.insertion_cost.specs.declared.candidates.Candidate.{Candidate}
 use Rattle.insertion_cost.specs.declared.searches.Searches.{Searches}
-use Rattle.insertion_cost.specs.Offers.{IsFirst, IsOfferNow}
+use Rattle.insertion_cost.specs.declared.decision.Assigned.{Assigned}
+use Rattle.insertion_cost.specs.declared.decision.Decision.{Decision}
+use Rattle.insertion_cost.specs.declared.decision.Decision.TheVariants.{Assigned as IsAssigned, Nobody}
+use Rattle.insertion_cost.specs.Offers.{IsBest, IsFirst, IsOfferNow, NoOffer}
 use Rattle.insertion_cost.specs.Searches.{AreSearchesOf}
 
 -- both nodes of a request are in the graph, and its moment isn't too late
@@ -60,3 +63,14 @@ pub record HaveDistances (g : Roads) (ends : List (NodeNo × NodeNo)) : Type 0 w
 -- least walks of the legs that an offer changes
 abbrev pub AreWalksOf : Roads → Cars → Request → Offer → List Path → Type 0
 AreWalksOf g fleet r o walks = OfCar fleet o.place (λ (car : Car). AreLeastWalks g (changed_ends car.plan.stops (front_of car.plan fleet.clock) r o.at) walks)
+
+-- the best insertion of a fleet, with least walks of the legs that it changes, and with the direct distance
+pub record IsBestPlan (g : Roads) (fleet : Cars) (r : Request) (a : Assigned) (direct : ℕ) : Type 0 where
+  pub best : IsBest g fleet r a.offer
+  pub direct_way : IsDist g r.pickup r.dropoff direct
+  pub walks : AreWalksOf g fleet r a.offer a.walks
+
+-- the answer of a fleet to a request: that, or nobody and no length where there is no feasible insertion
+abbrev pub IsAnswerOf : Roads → Cars → Request → Decision → (direct : ℕ) → Type 0
+IsAnswerOf g fleet r Nobody direct = (direct ≡ 0) × NoOffer g fleet r
+IsAnswerOf g fleet r (IsAssigned a) direct = IsBestPlan g fleet r a direct

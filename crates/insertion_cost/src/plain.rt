@@ -1,18 +1,21 @@
-ghost use Rattle.std.specs.Prelude.{◌≡◌, ◌+◌, ◌<◌, ◌≤◌, ◌^◌, ◌∷◌, ◌++◌, length, option_to_list, IfOk};
+ghost use Rattle.std.specs.Prelude.{IsOk, IfSome, ◌≡◌, ◌+◌, ◌<◌, ◌≤◌, ◌^◌, ◌∷◌, ◌++◌, length, option_to_list, IfOk};
 ghost use Rattle.road_graph.specs.Graphs.{IsGraph};
-ghost use Rattle.road_graph.specs.Roads.{Roads};
+ghost use Rattle.road_graph.specs.Roads.{Roads, IsNode};
 ghost use Rattle.road_graph.specs.Walks.{IsLeastWalk};
 ghost use Rattle.stop_schedule.specs.Distances.{AreLeastWalks};
-ghost use Rattle.stop_schedule.specs.Fleets.{Car as CarOf};
+ghost use Rattle.stop_schedule.specs.Fleets.{Car as CarOf, IsGoodView};
 ghost use Rattle.stop_schedule.specs.Limits.{latest_moment, latest_front};
 ghost use Rattle.stop_schedule.specs.Lists.{changed_ends, node_at as node_of_stop};
 ghost use Rattle.insertion_cost.specs.Pairs.{IsCarOf, IsBestFrom};
-ghost use Rattle.insertion_cost.specs.Pricers.{IsSearchedFor, IsEntryAt, HasDistance, HaveDistances};
-ghost use Rattle.insertion_cost.specs.Searches.{AreSearchesOf};
+ghost use Rattle.insertion_cost.specs.Offers.{IsBestOrNone};
+ghost use Rattle.insertion_cost.specs.Pricers.{IsAnswerOf, IsRequestIn, IsSearchedFor};
+ghost use Rattle.insertion_cost.specs.Pricers.{IsEntryAt, HasDistance, HaveDistances};
+ghost use Rattle.insertion_cost.specs.Searches.{AreSearchesOf, IsLeastWalkOrNone};
 
 use crate::candidates::{Candidate, Candidates, Floor};
+use crate::decision::{Assigned, Decision};
 use crate::node_ways::NodeWays;
-use crate::offer::Offer;
+use crate::offer::{Offer, first_of_two};
 use crate::pairs::{Standing, best_from};
 use crate::pricer::Pricer;
 use crate::searches::{Searches, gather};
@@ -71,6 +74,26 @@ fn entry_at<F: FleetView>(
     Ok(Candidate { place, front, best })
 }
 
+/// The best offer of all vehicles of a view, by whole searches. None where no insertion is feasible.
+fn best_offer<F: FleetView>(
+    alloc: Global,
+    view: &F,
+    request: &Request,
+    searches: &Searches,
+) -> Result<Option<Offer>, NoMemory>
+    requires searched { IsSearchedFor (F.fleet view.now) request.now searches.now }
+    ensures { IfOk result (λ best. (g : Roads) → IsGraph g → AreSearchesOf g request.now searches.now
+        → IsBestOrNone g (F.fleet view.now) request.now best) }
+{
+    let mut ways = Vec::new(alloc);
+    let mut best = None;
+    for place in 0..view.count() {
+        let entry = entry_at(view, place, request, searches, &mut ways)?;
+        best = first_of_two(best, entry.best);
+    }
+    Ok(best)
+}
+
 /// The node of stop k, and of the front for 0.
 fn node_at(stops: &[Stop], front: &Front, k: usize) -> NodeNo
     requires { k ≤ length stops.now }
@@ -108,21 +131,49 @@ fn in_order(
     walks
 }
 
-/// A least walk between two nodes of which one reaches the other.
+/// A least walk between two nodes, read off searches for the request where there are some. None where there is no walk.
+fn walk_found<L>(
+    alloc: Global,
+    graph: &Graph,
+    searches: Option<&Searches>,
+    request: &Request,
+    from: NodeNo,
+    to: NodeNo,
+    steps: &mut Steps<L>,
+) -> Result<Option<Walk>, NoMemory>
+    requires searches { IfSome searches
+        (λ found. AreSearchesOf graph.now request.now found.now) }
+    requires from { IsNode graph.now from }
+    requires to { IsNode graph.now to }
+    ensures walk { IfOk result (IsLeastWalkOrNone graph.now from to) }
+    ensures steps { steps.old.0 ≤ steps.new.0 }
+    ensures asks { steps.new.1 ≡ steps.old.1 }
+{
+    match searches {
+        Some(searches) => searches.walk(alloc, graph, request, from, to, steps),
+        None => least_walk(alloc, graph, from, to, steps),
+    }
+}
+
+/// A least walk between two nodes of which one reaches the other, read off searches for the request where there are some.
 fn walk_between<L>(
     alloc: Global,
     graph: &Graph,
+    searches: Option<&Searches>,
+    request: &Request,
     from: NodeNo,
     to: NodeNo,
     steps: &mut Steps<L>,
 ) -> Result<Walk, NoMemory>
-    requires { HasDistance graph.now from to }
+    requires searches { IfSome searches
+        (λ found. AreSearchesOf graph.now request.now found.now) }
+    requires there { HasDistance graph.now from to }
     ensures walk { IfOk result (IsLeastWalk graph.now from to) }
     ensures steps { steps.old.0 ≤ steps.new.0 }
     ensures asks { steps.new.1 ≡ steps.old.1 }
 {
     let _ = graph.nodes();
-    let walk = least_walk(alloc, graph, from, to, steps)?;
+    let walk = walk_found(alloc, graph, searches, request, from, to, steps)?;
     Ok(walk.unwrap())
 }
 
@@ -130,6 +181,7 @@ fn walk_between<L>(
 fn changed_walks<L>(
     alloc: Global,
     graph: &Graph,
+    searches: Option<&Searches>,
     stops: &[Stop],
     front: &Front,
     request: &Request,
@@ -139,27 +191,61 @@ fn changed_walks<L>(
     requires order { at.i ≤ at.j }
     requires within { at.j ≤ length stops.now }
     requires there { HaveDistances graph.now (changed_ends stops.now front.now request.now at) }
+    requires searches { IfSome searches
+        (λ found. AreSearchesOf graph.now request.now found.now) }
     ensures least { IfOk result
         (AreLeastWalks graph.now (changed_ends stops.now front.now request.now at)) }
     ensures steps { steps.old.0 ≤ steps.new.0 }
     ensures asks { steps.new.1 ≡ steps.old.1 }
 {
     let before = node_at(stops, front, at.i);
-    let before_pickup = walk_between(alloc, graph, before, request.pickup, steps)?;
+    let before_pickup = walk_between(
+        alloc,
+        graph,
+        searches,
+        request,
+        before,
+        request.pickup,
+        steps,
+    )?;
     let after_dropoff = if at.j < stops.len() {
         let behind = node_at(stops, front, at.j + 1);
-        Some(walk_between(alloc, graph, request.dropoff, behind, steps)?)
+        Some(walk_between(
+            alloc,
+            graph,
+            searches,
+            request,
+            request.dropoff,
+            behind,
+            steps,
+        )?)
     } else {
         None
     };
     if at.i == at.j {
-        let between = walk_between(alloc, graph, request.pickup, request.dropoff, steps)?;
+        let between = walk_between(
+            alloc,
+            graph,
+            searches,
+            request,
+            request.pickup,
+            request.dropoff,
+            steps,
+        )?;
         return Ok(in_order(alloc, before_pickup, between, None, after_dropoff));
     }
     let next = node_at(stops, front, at.i + 1);
-    let after_pickup = walk_between(alloc, graph, request.pickup, next, steps)?;
+    let after_pickup = walk_between(alloc, graph, searches, request, request.pickup, next, steps)?;
     let last = node_at(stops, front, at.j);
-    let before_dropoff = walk_between(alloc, graph, last, request.dropoff, steps)?;
+    let before_dropoff = walk_between(
+        alloc,
+        graph,
+        searches,
+        request,
+        last,
+        request.dropoff,
+        steps,
+    )?;
     Ok(in_order(
         alloc,
         before_pickup,
@@ -181,6 +267,47 @@ impl<'g> PlainPricer<'g> {
         ensures { result.graph.now ≡ graph.now }
     {
         PlainPricer { graph }
+    }
+
+    /// The answer of a fleet to a request, and the length of the direct way, which is 0 where nobody takes it: the best insertion with least
+    /// walks of the legs that it changes, or nobody. It prices every vehicle, as `price` does, and reads the walks off the same searches.
+    pub fn answer<F: FleetView, L>(
+        &self,
+        alloc: Global,
+        view: &F,
+        request: &Request,
+        steps: &mut Steps<L>,
+    ) -> Result<(Decision, u64), NoMemory>
+        requires view { IsGoodView
+            (F.Index.fits (F.index_of view.now)) self.now.graph.now (F.fleet view.now) }
+        requires request { IsRequestIn self.now.graph.now request.now }
+        ensures answer { IfOk result (λ both. IsAnswerOf self.now.graph.now
+            (F.fleet view.now) request.now both.0 both.1) }
+        ensures steps { steps.old.0 ≤ steps.new.0 }
+        ensures asks { IsOk result → steps.new.1 ≡ steps.old.1 + length (F.fleet view.now).cars }
+        ensures few { steps.new.1 ≤ steps.old.1 + length (F.fleet view.now).cars }
+        ensures kept { steps.old.1 ≤ steps.new.1 }
+    {
+        let searches = Searches::of(alloc, self.graph, request, steps)?;
+        let vehicles = view.count();
+        steps.ask(vehicles);
+        let Some(offer) = best_offer(alloc, view, request, &searches)? else {
+            return Ok((Decision::Nobody, 0));
+        };
+        let direct = searches.from_pickup(request.dropoff).unwrap();
+        let schedule = view.schedule(offer.place);
+        let front = schedule.front(view.clock());
+        let walks = changed_walks(
+            alloc,
+            self.graph,
+            Some(&searches),
+            schedule.stops(),
+            &front,
+            request,
+            offer.at,
+            steps,
+        )?;
+        Ok((Decision::Assigned(Assigned { offer, walks }), direct))
     }
 }
 
@@ -251,6 +378,7 @@ impl<'g, F: FleetView> Pricer<F> for PlainPricer<'g> {
         changed_walks(
             alloc,
             self.graph,
+            None,
             schedule.stops(),
             &front,
             request,

@@ -1,12 +1,13 @@
 ghost use Rattle.std.specs.Prelude.{◌≡◌, ◌≤◌, ◌∷◌, map, OnOk, IfOk};
 ghost use Rattle.road_graph.specs.Roads.{IsNode};
 ghost use Rattle.plain_search.specs.Reaching.{distance_of};
-ghost use Rattle.insertion_cost.specs.Searches.{AreSearchesOf, ways_at, ways_along};
+ghost use Rattle.insertion_cost.specs.Searches.{AreSearchesOf, IsLeastWalkOrNone};
+ghost use Rattle.insertion_cost.specs.Searches.{ways_at, ways_along};
 
 use crate::node_ways::NodeWays;
-use plain_search::{Reach, reach_from, reach_to};
+use plain_search::{Reach, least_walk, reach_from, reach_to};
 use ride_base::NoMemory;
-use road_graph::{Graph, NodeNo, Steps};
+use road_graph::{Graph, NodeNo, Steps, Walk};
 use std::alloc::Global;
 use stop_schedule::{Front, Request, Stop};
 
@@ -46,6 +47,37 @@ impl Searches {
         ensures { result ≡ distance_of self.now.from_pickup.listed node }
     {
         self.from_pickup.distance(node)
+    }
+
+    /// A least walk between two nodes, read off the searches where one of them is a node of the request at that end, and else searched. None
+    /// where there is no walk.
+    pub fn walk<L>(
+        &self,
+        alloc: Global,
+        graph: &Graph,
+        request: &Request,
+        from: NodeNo,
+        to: NodeNo,
+        steps: &mut Steps<L>,
+    ) -> Result<Option<Walk>, NoMemory>
+        requires searches { AreSearchesOf graph.now request.now self.now }
+        requires from { IsNode graph.now from }
+        requires to { IsNode graph.now to }
+        ensures walk { IfOk result (IsLeastWalkOrNone graph.now from to) }
+        ensures steps { steps.old.0 ≤ steps.new.0 }
+        ensures asks { steps.new.1 ≡ steps.old.1 }
+    {
+        if to == request.pickup {
+            self.to_pickup.walk(alloc, graph, from, steps)
+        } else if from == request.pickup {
+            self.from_pickup.walk(alloc, graph, to, steps)
+        } else if to == request.dropoff {
+            self.to_dropoff.walk(alloc, graph, from, steps)
+        } else if from == request.dropoff {
+            self.from_dropoff.walk(alloc, graph, to, steps)
+        } else {
+            least_walk(alloc, graph, from, to, steps)
+        }
     }
 
     /// The distances between a node and the two nodes of the request.

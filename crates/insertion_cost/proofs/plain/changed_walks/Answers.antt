@@ -7,20 +7,20 @@ use Rattle.insertion_cost.proofs.ChangedWalks.{LeadsOut, leads_out, leads_nowher
 use Rattle.insertion_cost.proofs.plain.changed_walks.Goals as goal
 use Rattle.insertion_cost.proofs.plain.changed_walks.Goals.{then-at-stops+in_ok-walk_between, else-at-stops}
 
-pub walk_between-requires : goal.walk_between-requires
-walk_between-requires g c = subst (λ (n : NodeNo). HasDistance c.args.graph.now n c.args.request.now.pickup) (sym c.node_at-before.ensures) (has_into c.args.graph.now c.args.stops.now c.args.front.now c.args.request.now c.args.at c.requires.there)
+pub walk_between-requires-clause-there : goal.walk_between-requires-clause-there
+walk_between-requires-clause-there g c = subst (λ (n : NodeNo). HasDistance c.args.graph.now n c.args.request.now.pickup) (sym c.node_at-before.ensures) (has_into c.args.graph.now c.args.stops.now c.args.front.now c.args.request.now c.args.at c.requires.there)
 
-pub walk_between-requires-then-at-stops : goal.walk_between-requires-then-at-stops
-walk_between-requires-then-at-stops g c = subst (λ (n : NodeNo). HasDistance c.args.graph.now c.args.request.now.dropoff n) (sym c.node_at-behind.ensures) (has_out c.args.graph.now c.args.stops.now c.args.front.now c.args.request.now c.args.at c.requires.there c.if-at-stops.true)
+pub walk_between-requires-then-at-stops-clause-there : goal.walk_between-requires-then-at-stops-clause-there
+walk_between-requires-then-at-stops-clause-there g c = subst (λ (n : NodeNo). HasDistance c.args.graph.now c.args.request.now.dropoff n) (sym c.node_at-behind.ensures) (has_out c.args.graph.now c.args.stops.now c.args.front.now c.args.request.now c.args.at c.requires.there c.if-at-stops.true)
 
-pub walk_between-requires-then-at : goal.walk_between-requires-then-at
-walk_between-requires-then-at g c = has_between c.args.graph.now c.args.stops.now c.args.front.now c.args.request.now c.args.at c.requires.there c.if-at.true
+pub walk_between-requires-then-at-clause-there : goal.walk_between-requires-then-at-clause-there
+walk_between-requires-then-at-clause-there g c = has_between c.args.graph.now c.args.stops.now c.args.front.now c.args.request.now c.args.at c.requires.there c.if-at.true
 
-pub walk_between-requires-2 : goal.walk_between-requires-2
-walk_between-requires-2 g c = subst (λ (n : NodeNo). HasDistance c.args.graph.now c.args.request.now.pickup n) (sym c.node_at-next.ensures) (has_on c.args.graph.now c.args.stops.now c.args.front.now c.args.request.now c.args.at c.requires.there c.if-at.false)
+pub walk_between-requires-2-clause-there : goal.walk_between-requires-2-clause-there
+walk_between-requires-2-clause-there g c = subst (λ (n : NodeNo). HasDistance c.args.graph.now c.args.request.now.pickup n) (sym c.node_at-next.ensures) (has_on c.args.graph.now c.args.stops.now c.args.front.now c.args.request.now c.args.at c.requires.there c.if-at.false)
 
-pub walk_between-requires-3 : goal.walk_between-requires-3
-walk_between-requires-3 g c = subst (λ (n : NodeNo). HasDistance c.args.graph.now n c.args.request.now.dropoff) (sym c.node_at-last.ensures) (has_in c.args.graph.now c.args.stops.now c.args.front.now c.args.request.now c.args.at c.requires.there c.if-at.false)
+pub walk_between-requires-3-clause-there : goal.walk_between-requires-3-clause-there
+walk_between-requires-3-clause-there g c = subst (λ (n : NodeNo). HasDistance c.args.graph.now n c.args.request.now.dropoff) (sym c.node_at-last.ensures) (has_in c.args.graph.now c.args.stops.now c.args.front.now c.args.request.now c.args.at c.requires.there c.if-at.false)
 
 pub returns-then-at-clause-least : goal.returns-then-at-clause-least
 returns-then-at-clause-least g c =
