@@ -81,6 +81,8 @@ impl<'a, K: Sink + Drop> Sink for WatchedSink<'a, K> {
 
     ghost faults = { λ s. K.faults s.inner };
 
+    ghost IsQuiet = { K.IsQuiet };
+
     fn put(&mut self, piece: &[u8]) -> Result<usize, Failed> {
         let taken = self.inner.put(piece)?;
         self.log

@@ -104,6 +104,8 @@ impl<'a, R: Print> Sink for HostSink<'a, R> {
 
     ghost faults = { λ s. s.faults };
 
+    ghost IsQuiet = { Unit {0} };
+
     fn put(&mut self, piece: &[u8]) -> Result<usize, Failed> {
         match self.rt.write_some(piece) {
             Ok(count) if count > 0 => Ok(count),

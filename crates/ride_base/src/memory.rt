@@ -292,11 +292,14 @@ impl Sink for MemorySink {
 
     ghost faults = { λ s. s.faults };
 
+    ghost IsQuiet = { Unit {0} };
+
     fn put(&mut self, piece: &[u8]) -> Result<usize, Failed>
         requires { 0 < length piece.now }
         ensures exact { Puts self.old self.new piece.now result }
         ensures counted { self.old.faults ≤ self.new.faults }
         ensures rose { OnErr result (Rose self.old.faults self.new.faults) }
+        ensures quiet { IsOk result → self.new.faults ≡ self.old.faults }
     {
         self.puts = self.puts.saturating_add(1);
         let left = self.room.saturating_sub(self.taken.len());

@@ -76,13 +76,17 @@ pub trait Sink {
     /// How often it failed, up to the last value of its counter.
     ghost faults: { Self → ℕ };
 
+    /// Whether its count stays at each call that succeeds.
+    ghost IsQuiet: { Type 0 };
+
     /// Takes the first bytes of the piece, and answers how many: 1 or more. After `Failed` it has taken none.
     fn put(&mut self, piece: &[u8]) -> Result<usize, Failed>
         requires { 0 < length piece.now }
         ensures ok { IfOk result (TakesSome (taken self.old) (taken self.new) piece.now) }
         ensures err { OnErr result (taken self.new ≡ taken self.old) }
         ensures counted { faults self.old ≤ faults self.new }
-        ensures rose { OnErr result (CountRose faults self.old self.new) };
+        ensures rose { OnErr result (CountRose faults self.old self.new) }
+        ensures quiet { IsQuiet → IsOk result → CountStays faults self.old self.new };
 }
 
 /// Writes all the bytes. After `Failed` the sink has taken a prefix of them.
@@ -91,6 +95,7 @@ pub fn write_whole<K: Sink>(sink: &mut K, bytes: &[u8]) -> Result<(), Failed>
     ensures err { OnErr result (TakesPrefix (K.taken sink.old) (K.taken sink.new) bytes.now) }
     ensures counted { K.faults sink.old ≤ K.faults sink.new }
     ensures rose { OnErr result (CountRose K.faults sink.old sink.new) }
+    ensures quiet { K.IsQuiet → IsOk result → CountStays K.faults sink.old sink.new }
 {
     let mut done = 0;
     while done < bytes.len() {
