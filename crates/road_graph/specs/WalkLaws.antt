@@ -1,10 +1,15 @@
 use Rattle.std.specs.Prelude.{◌≡◌, ℕ, ◌+◌, ◌-◌, ◌<◌, ◌≤◌, List, ◌∷◌, ◌++◌, length, slice_get, slice_index, Option, Some}
 use Rattle.road_graph.specs.declared.road.NodeNo.{NodeNo}
 use Rattle.road_graph.specs.declared.road.Road.{Road}
+use Rattle.road_graph.specs.Graphs.{IsGraph}
 use Rattle.road_graph.specs.Limits.{far}
 use Rattle.road_graph.specs.Roads.{Roads, least_weight}
 use Rattle.road_graph.specs.Paths.{Path}
 use Rattle.road_graph.specs.Walks.{walk_length, Joins, IsWalk, IsDist, IsSimple, IsLeastWalk}
+
+-- a law holds of every graph
+abbrev pub HoldsOfGraphs : (Roads → Type 0) → Type 0
+HoldsOfGraphs Law = (g : Roads) → IsGraph g → Law g
 
 -- each walk can be shortened to one with no node twice
 abbrev pub WalksShorten : Roads → Type 0
