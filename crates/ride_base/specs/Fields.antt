@@ -28,6 +28,10 @@ is_number bytes = has_bytes bytes && are_digits bytes
 abbrev pub value_of : List ℕ → ℕ
 value_of digits = value_after 0 digits
 
+-- the largest number of 32 bits
+abbrev pub largest_32 : ℕ
+largest_32 = 4294967295
+
 -- a number, cut at the largest of 64 bits
 abbrev pub capped : ℕ → ℕ
 capped n = min n (2 ^ 64 - 1)

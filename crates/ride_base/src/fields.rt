@@ -2,6 +2,9 @@ ghost use Rattle.std.specs.Prelude.{◌≡◌, ◌<◌, ◌≤◌, length, [], p
 ghost use Rattle.std.specs.List.{position_or_len};
 ghost use Rattle.ride_base.specs.Fields.{IsCut, fields_of, is_blank as is_blank_of, is_unblank, begins_comment as begins_comment_of, capped_of};
 
+/// The largest number of 32 bits.
+pub const LARGEST_32: u64 = u32::MAX as u64;
+
 /// The first field of a line, and what stands behind it. Fields are parted by one or more spaces or tabs. None exactly where no field
 /// is left.
 pub fn next_field(line: &[u8]) -> Option<(&[u8], &[u8])>

@@ -20,7 +20,7 @@ mod outside;
 mod texts;
 
 pub use digits::number;
-pub use fields::{begins_comment, capped_number, is_blank, next_field};
+pub use fields::{LARGEST_32, begins_comment, capped_number, is_blank, next_field};
 pub use host::{HostShelf, HostSink};
 pub use items::{Items, NoMemory};
 pub use lines::{LARGEST_TEXT, Line, LineFault, Lines};

@@ -1,6 +1,6 @@
-ghost use Rattle.std.specs.Prelude.{◌≡◌, ◌≢◌, ℕ, ◌<◌, ◌≤◌, ◌+◌, ◌^◌, List, [], false, Ok, length, min, cond, position, Option, Some, None, IfSome, IsSome, Err};
+ghost use Rattle.std.specs.Prelude.{◌≡◌, ◌≢◌, ℕ, ◌<◌, ◌≤◌, ◌+◌, List, [], false, Ok, length, min, cond, position, Option, Some, None, IfSome, IsSome, Err};
 ghost use Rattle.ride_base.specs.Outside.{CountRose, CountStays, OnlyRead};
-ghost use Rattle.ride_base.specs.Pieces.{is_line_end, longest_line};
+ghost use Rattle.ride_base.specs.Pieces.{is_line_end, largest_text, longest_line};
 ghost use Rattle.ride_base.specs.Reader.{HasNoLineEnd, most_held, most_line, new_reader};
 ghost use Rattle.ride_base.specs.Buffers.{limit_at as limit_of, limit_past as past_limit};
 ghost use Rattle.ride_base.specs.Limits.{shown_limit};
@@ -20,12 +20,14 @@ const LONGEST_LINE: u64 = 65536;
 /// The most bytes that a text of lines may have, 2^30.
 pub const LARGEST_TEXT: u64 = 1 << 30;
 
-/// A line without its end, where it stands (lines count from 1), and whether a line end stood behind it. Only the last line of a text
-/// may have none.
+/// A line of a text, where it stands in it.
 #[derive(Debug, PartialEq, Eq, Drop)]
 pub struct Line {
+    /// Its number, from 1; 0 where no line was read into it yet.
     pub number: u64,
+    /// Its bytes, at most 65,536, without its LF and one CR before it.
     pub bytes: Items<u8>,
+    /// Whether an LF stood behind it: only the last line of a text may have none, and then keeps its CR.
     pub ended: bool,
 }
 
@@ -114,7 +116,8 @@ pub struct Lines {
 }
 
 impl Model for Lines {
-    ghost use Rattle.std.specs.Prelude.{◌+◌, ◌≤◌, ◌^◌, length};
+    ghost use Rattle.std.specs.Prelude.{◌+◌, ◌≤◌, length};
+    ghost use Rattle.ride_base.specs.Pieces.{largest_text};
     ghost use Rattle.ride_base.specs.Reader.{Reader, most_held};
     ghost use Rattle.ride_base.specs.Limits.{shown_limit};
 
@@ -128,13 +131,13 @@ impl Model for Lines {
       over = a.over;
     } };
 
-    ghost invariant = { λ a. (a.given + a.room ≤ 2 ^ 30) × (length a.pending ≤ most_held) };
+    ghost invariant = { λ a. (a.given + a.room ≤ largest_text) × (length a.pending ≤ most_held) };
 }
 
 impl Lines {
     /// The lines of a text that may have so many bytes. It takes no memory.
     pub fn new(alloc: Global, limit: u64) -> Lines
-        requires { limit ≤ 2 ^ 30 }
+        requires { limit ≤ largest_text }
         ensures fresh { result ≡ new_reader limit }
         ensures none { (text : List ℕ) → AreGiven limit text [] result (Some text) }
     {
@@ -150,7 +153,7 @@ impl Lines {
     /// How many lines were given.
     pub fn given(&self) -> u64
         ensures given { result ≡ self.now.given }
-        ensures few { result + self.now.room ≤ 2 ^ 30 }
+        ensures few { result + self.now.room ≤ largest_text }
     {
         self.given
     }

@@ -1,6 +1,6 @@
 ghost use Rattle.std.specs.Prelude.{◌≡◌, ℕ, ◌+◌, ◌<◌, ◌≤◌, ◌^◌, ◌==◌, List, length, filter, IfOk, IfNone, OnOk, MatchResult, slice_get, Some, None, not};
 ghost use Rattle.road_graph.specs.Roads.{IsNode, is_node, outs, ins, least_weight, lighter_of, is_within};
-ghost use Rattle.road_graph.specs.Limits.{most_roads};
+ghost use Rattle.road_graph.specs.Limits.{most_roads, most_walk_nodes};
 ghost use Rattle.road_graph.specs.Walks.{walk_length as length_as_walk};
 ghost use Rattle.road_graph.specs.Reads.{read_along};
 ghost use Rattle.road_graph.specs.Faults.{fault_in, first_outside, IsCause};
@@ -67,7 +67,8 @@ impl Graph {
     pub fn build(alloc: Global, n: u32, roads: &[Road]) -> Result<Graph, BuildFault>
         ensures graph { IfOk result (λ g. g ≡ record { nodes = n; roads = roads.now }) }
         ensures kept { IfOk result (λ g. IsGraph g) }
-        ensures fault { MatchResult result (λ g. fault_in n roads.now ≡ None) (λ e. IsCause (fault_in n roads.now) e) }
+        ensures fault { MatchResult result
+            (λ g. fault_in n roads.now ≡ None) (λ e. IsCause (fault_in n roads.now) e) }
     {
         check(n, roads)?;
         let outs = Rows::sorted(alloc, Way::Out, n, roads)?;
@@ -187,7 +188,7 @@ impl Graph {
     /// are none. At most 4,194,304 nodes. It counts the roads out of each node but the last, up to the first that isn't joined to the
     /// next.
     pub fn walk_length<L>(&self, nodes: &[NodeNo], steps: &mut Steps<L>) -> Option<u64>
-        requires { length nodes.now ≤ 4194304 }
+        requires { length nodes.now ≤ most_walk_nodes }
         ensures length { result ≡ length_as_walk self.now nodes.now }
         ensures steps { steps.new ≡ (steps.old.0 + read_along self.now nodes.now, steps.old.1) }
     {
@@ -204,7 +205,8 @@ impl Graph {
 
 /// Refuses numbers that are no graph's.
 fn check(nodes: u32, roads: &[Road]) -> Result<(), BuildFault>
-    ensures fault { MatchResult result (λ _. fault_in nodes roads.now ≡ None) (λ e. fault_in nodes roads.now ≡ Some e) }
+    ensures fault { MatchResult result
+        (λ _. fault_in nodes roads.now ≡ None) (λ e. fault_in nodes roads.now ≡ Some e) }
     ensures kept { OnOk result (IsGraph (record { nodes = nodes; roads = roads.now })) }
 {
     if nodes > MOST_NODES || roads.len() > MOST_ROADS {

@@ -1,4 +1,5 @@
 ghost use Rattle.std.specs.Prelude.{◌≡◌, ℕ, ◌+◌, ◌-◌, ◌<◌, ◌≤◌, List, [], length, IfOk, MatchOption, slice_index, Some, None};
+ghost use Rattle.road_graph.specs.Limits.{most_walk_nodes};
 ghost use Rattle.road_graph.specs.Paths.{Path, length_of, IsPath};
 ghost use Rattle.road_graph.specs.Walks.{walk_length, IsMeasured};
 ghost use Rattle.road_graph.specs.Reads.{read_along};
@@ -43,9 +44,12 @@ impl Walk {
         nodes: &[NodeNo],
         steps: &mut Steps<L>,
     ) -> Result<Option<Walk>, NoMemory>
-        requires { length nodes.now ≤ 4194304 }
-        ensures walk { IfOk result (λ made. MatchOption made (walk_length graph.now nodes.now ≡ None) (λ w. (w.nodes ≡ nodes.now) × IsMeasured graph.now w)) }
-        ensures steps { IfOk result (λ _. steps.new ≡ (steps.old.0 + read_along graph.now nodes.now, steps.old.1)) }
+        requires { length nodes.now ≤ most_walk_nodes }
+        ensures walk { IfOk result (λ made. MatchOption made
+            (walk_length graph.now nodes.now ≡ None)
+            (λ w. (w.nodes ≡ nodes.now) × IsMeasured graph.now w)) }
+        ensures steps { IfOk result
+            (λ _. steps.new ≡ (steps.old.0 + read_along graph.now nodes.now, steps.old.1)) }
         ensures least { steps.old.0 ≤ steps.new.0 }
         ensures most { steps.new.0 ≤ steps.old.0 + read_along graph.now nodes.now }
         ensures asks { steps.new.1 ≡ steps.old.1 }
@@ -116,9 +120,12 @@ fn offsets_of<L>(
     nodes: &[NodeNo],
     steps: &mut Steps<L>,
 ) -> Result<Option<Short<u64>>, NoMemory>
-    requires { length nodes.now ≤ 4194304 }
-    ensures offsets { IfOk result (λ made. MatchOption made (walk_length graph.now nodes.now ≡ None) (λ offsets. AreOffsets graph.now nodes.now offsets)) }
-    ensures steps { IfOk result (λ _. steps.new ≡ (steps.old.0 + read_along graph.now nodes.now, steps.old.1)) }
+    requires { length nodes.now ≤ most_walk_nodes }
+    ensures offsets { IfOk result (λ made. MatchOption made
+        (walk_length graph.now nodes.now ≡ None)
+        (λ offsets. AreOffsets graph.now nodes.now offsets)) }
+    ensures steps { IfOk result
+        (λ _. steps.new ≡ (steps.old.0 + read_along graph.now nodes.now, steps.old.1)) }
     ensures least { steps.old.0 ≤ steps.new.0 }
     ensures most { steps.new.0 ≤ steps.old.0 + read_along graph.now nodes.now }
     ensures asks { steps.new.1 ≡ steps.old.1 }

@@ -1,4 +1,5 @@
-use Rattle.std.specs.Prelude.{◌≡◌, ℕ, suc, ◌<◌, ◌≤◌, ◌^◌, List, length, Some, slice_get}
+use Rattle.std.specs.Prelude.{◌≡◌, ℕ, suc, ◌<◌, ◌≤◌, List, length, Some, slice_get}
+use Rattle.road_graph.specs.Limits.{far}
 use Rattle.road_graph.specs.Paths.{Path, length_of}
 use Rattle.stop_schedule.specs.declared.stop.Stop.{Stop}
 use Rattle.stop_schedule.specs.declared.vehicle.Vehicle.{Vehicle}
@@ -15,9 +16,9 @@ pub record IsSmallStop (s : Stop) : Type 0 where
 abbrev pub AreSmallStops : List Stop → Type 0
 AreSmallStops stops = (k : ℕ) (s : Stop) → slice_get stops k ≡ Some s → IsSmallStop s
 
--- each leg is shorter than 2^53, as each least walk is
+-- each leg is shorter than the limit, as each least walk is
 abbrev pub AreShortLegs : List Path → Type 0
-AreShortLegs legs = (k : ℕ) (leg : Path) → slice_get legs k ≡ Some leg → length_of leg < 2 ^ 53
+AreShortLegs legs = (k : ℕ) (leg : Path) → slice_get legs k ≡ Some leg → length_of leg < far
 
 -- What every schedule keeps: few stops with a leg for each, and numbers from which each time is before the end of time.
 pub record IsBounded (p : Plan) : Type 0 where

@@ -1,4 +1,5 @@
-ghost use Rattle.std.specs.Prelude.{◌≡◌, ℕ, ◌+◌, ◌<◌, ◌≤◌, ◌^◌, length, slice_index};
+ghost use Rattle.std.specs.Prelude.{◌≡◌, ℕ, ◌+◌, ◌<◌, ◌≤◌, length, slice_index};
+ghost use Rattle.road_graph.specs.Limits.{far};
 ghost use Rattle.road_graph.specs.Paths.{length_of};
 ghost use Rattle.stop_schedule.specs.Fronts.{front_of, first_reached, IsAhead};
 ghost use Rattle.stop_schedule.specs.Keeping.{IsOverAGraph};
@@ -11,7 +12,7 @@ use road_graph::{NodeNo, Walk};
 /// The first node of a walk that a vehicle reaches at `now` or later, where it leaves the walk's first node then. It halves what is left.
 fn front_on(leg: &Walk, start: NodeNo, departure: u64, now: u64) -> Front
     requires departure { departure ≤ latest_front }
-    requires short { length_of leg.now < 2 ^ 53 }
+    requires short { length_of leg.now < far }
     requires ahead { now ≤ departure + length_of leg.now }
     ensures value { result ≡ first_reached start departure now leg.now.nodes leg.now.offsets }
     ensures offset { result.offset ≤ length_of leg.now }
@@ -41,7 +42,7 @@ impl Schedule {
     pub fn front(&self, now: u64) -> Front
         requires ahead { IsAhead self.now now }
         ensures value { result ≡ front_of self.now now }
-        ensures offset { result.offset < 2 ^ 53 }
+        ensures offset { result.offset < far }
         ensures time { now ≤ latest_moment → IsOverAGraph self.now → result.time ≤ latest_front }
     {
         if self.stops().is_empty() || now < self.departure() {

@@ -1,4 +1,5 @@
 ghost use Rattle.std.specs.Prelude.{◌≡◌, ℕ, ◌+◌, ◌*◌, ◌/◌, ◌<◌, ◌≤◌, ◌^◌, OnSome, IfSome, IfNone};
+ghost use Rattle.road_graph.specs.Limits.{far};
 ghost use Rattle.stop_schedule.specs.Rates.{AreInRange, AreOfNumbers, AreOutOfRange, trip_limit, usual};
 ghost use Rattle.stop_schedule.specs.Times.{halt_time};
 
@@ -18,15 +19,32 @@ pub struct Params {
 }
 
 impl Model for Params {
-    ghost use Rattle.stop_schedule.specs.Rates.{Rates, AreInRange};
+    ghost use Rattle.stop_schedule.specs.Rates.{Rates, AreInRange, rates_of};
 
     ghost Value = { Rates };
 
-    ghost view = { λ p. record { stop = p.stop; wait = p.wait; trip_num = p.trip_num; trip_den = p.trip_den; trip_add = p.trip_add; wait_weight = p.wait_weight; trip_weight = p.trip_weight } };
+    ghost view = { λ p. record {
+      stop = p.stop;
+      wait = p.wait;
+      trip_num = p.trip_num;
+      trip_den = p.trip_den;
+      trip_add = p.trip_add;
+      wait_weight = p.wait_weight;
+      trip_weight = p.trip_weight;
+    } };
 
-    ghost inverse = { λ r. record { stop = r.stop; wait = r.wait; trip_num = r.trip_num; trip_den = r.trip_den; trip_add = r.trip_add; wait_weight = r.wait_weight; trip_weight = r.trip_weight } };
+    ghost inverse = { λ r. record {
+      stop = r.stop;
+      wait = r.wait;
+      trip_num = r.trip_num;
+      trip_den = r.trip_den;
+      trip_add = r.trip_add;
+      wait_weight = r.wait_weight;
+      trip_weight = r.trip_weight;
+    } };
 
-    ghost invariant = { λ p. AreInRange (record { stop = p.stop; wait = p.wait; trip_num = p.trip_num; trip_den = p.trip_den; trip_add = p.trip_add; wait_weight = p.wait_weight; trip_weight = p.trip_weight }) };
+    ghost invariant = { λ p. AreInRange (rates_of p.stop p.wait p.trip_num p.trip_den p.trip_add
+        p.wait_weight p.trip_weight) };
 }
 
 impl Params {
@@ -82,7 +100,7 @@ impl Params {
         }
     }
 
-    /// How long each stop takes.
+    /// How long a stop takes at a node where the vehicle doesn't halt already, in the units of the roads' weights, at most 65,536.
     pub fn stop(&self) -> u64
         ensures value { result ≡ self.now.stop }
         ensures in_range { AreInRange self.now }
@@ -90,7 +108,8 @@ impl Params {
         self.stop
     }
 
-    /// How long a stop at a node takes a vehicle that halts there, or elsewhere, or nowhere.
+    /// How long a stop at a node takes a vehicle that halts there, or elsewhere, or nowhere, in the units of the roads' weights: 0 where
+    /// it halts there.
     pub fn stop_at(&self, halt: Option<NodeNo>, node: NodeNo) -> u64
         ensures value { result ≡ halt_time self.now.stop halt node }
         ensures bound { result ≤ 65536 }
@@ -101,7 +120,7 @@ impl Params {
         }
     }
 
-    /// How long a rider waits at no cost.
+    /// How long a rider waits at no cost, in the units of the roads' weights, at most 65,536.
     pub fn wait(&self) -> u64
         ensures value { result ≡ self.now.wait }
         ensures in_range { AreInRange self.now }
@@ -109,7 +128,7 @@ impl Params {
         self.wait
     }
 
-    /// What a unit of waiting past the limit costs.
+    /// What a unit of waiting past the limit costs, at most 65,536.
     pub fn wait_weight(&self) -> u64
         ensures value { result ≡ self.now.wait_weight }
         ensures in_range { AreInRange self.now }
@@ -117,7 +136,7 @@ impl Params {
         self.wait_weight
     }
 
-    /// What a unit of a trip past its limit costs.
+    /// What a unit of a trip past its limit costs, at most 65,536.
     pub fn trip_weight(&self) -> u64
         ensures value { result ≡ self.now.trip_weight }
         ensures in_range { AreInRange self.now }
@@ -127,7 +146,7 @@ impl Params {
 
     /// The longest trip that costs nothing, for a direct distance below 2^53. It is below 2^58.
     pub fn trip_limit(&self, direct: u64) -> u64
-        requires { direct < 2 ^ 53 }
+        requires { direct < far }
         ensures value { result ≡ trip_limit self.now direct }
         ensures bound { result < 2 ^ 58 }
     {
