@@ -66,6 +66,7 @@ impl Buffer {
         }
     }
 
+    /// How many bytes there are.
     pub fn len(&self) -> usize
         ensures { result ≡ length self.now }
     {

@@ -92,6 +92,7 @@ pub struct HostSink<'a, R: Print> {
 }
 
 impl<'a, R: Print> HostSink<'a, R> {
+    /// The standard output, with no fault counted yet. It writes nothing and takes no memory.
     pub fn new(rt: &'a R) -> HostSink<'a, R>
         ensures faults { ⟦<HostSink<'a, R> as Sink>⟧.faults result ≡ 0 }
     {

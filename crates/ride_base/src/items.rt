@@ -42,18 +42,21 @@ impl<T> Items<T> {
         self.held
     }
 
+    /// The items in their order, which are not copied.
     pub fn as_slice(&self) -> &[T]
         ensures { result.now ≡ self.now }
     {
         self.held.as_slice()
     }
 
+    /// How many items there are.
     pub fn len(&self) -> usize
         ensures { result ≡ length self.now }
     {
         self.held.len()
     }
 
+    /// Whether there is no item.
     pub fn is_empty(&self) -> bool
         ensures { IsTrue result ↔ (self.now ≡ []) }
     {
@@ -73,7 +76,7 @@ impl<T: Drop> Items<T> {
 }
 
 impl<T: Copy> Items<T> {
-    /// A copy of the items of a slice.
+    /// A copy of the items of a slice. After an error nothing of it is left.
     pub fn from_slice(alloc: Global, items: &[T]) -> Result<Items<T>, NoMemory>
         ensures { IfOk result (λ r. r ≡ items.now) }
     {

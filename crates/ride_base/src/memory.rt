@@ -76,7 +76,8 @@ impl MemoryShelf {
         }
     }
 
-    /// Puts a text under a name. It takes the place of an earlier one at the next `begin`, and a text that is begun goes on.
+    /// Puts a text under a name. It takes the place of an earlier one at the next `begin`, and a text that is begun goes on. After an
+    /// error the shelf is as it was.
     pub fn put(&mut self, alloc: Global, name: &str, bytes: &[u8]) -> Result<(), NoMemory>
         ensures ok { OnOk result (self.new ≡ with_text self.old name.now bytes.now) }
         ensures err { OnErr result (self.new ≡ self.old) }
@@ -94,7 +95,8 @@ impl MemoryShelf {
         self.most = most;
     }
 
-    /// Lists a call of a name as failing: 0 is its `begin`, and its reads are counted from 1 at each `begin`.
+    /// Lists a call of a name as failing: 0 is its `begin`, and its reads are counted from 1 at each `begin`. After an error the shelf
+    /// is as it was.
     pub fn fail(&mut self, alloc: Global, name: &str, call: u64) -> Result<(), NoMemory>
         ensures ok { OnOk result (self.new ≡ with_failing self.old name.now call) }
         ensures err { OnErr result (self.new ≡ self.old) }
@@ -256,7 +258,7 @@ impl Model for MemorySink {
 }
 
 impl MemorySink {
-    /// A sink with room for so many bytes.
+    /// A sink with room for so many bytes, which it takes at once. After an error there is none.
     pub fn new(alloc: Global, room: usize) -> Result<MemorySink, NoMemory>
         ensures { IfOk result (λ s. s ≡ empty_basin room) }
     {
@@ -278,7 +280,7 @@ impl MemorySink {
         self.taken.as_slice()
     }
 
-    /// Lists a put as failing, counted from 1.
+    /// Lists a put as failing, counted from 1. After an error the sink is as it was.
     pub fn fail(&mut self, alloc: Global, call: u64) -> Result<(), NoMemory>
         ensures ok { OnOk result (self.new ≡ with_failing_put self.old call) }
         ensures err { OnErr result (self.new ≡ self.old) }
