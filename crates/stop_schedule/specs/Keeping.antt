@@ -1,4 +1,4 @@
-use Rattle.std.specs.Prelude.{◌≡◌, ℕ, zero, suc, ◌-◌, ◌<◌, ◌≤◌, ◌==◌, ◌&&◌, ◌||◌, nat_le, Bool, true, false, cond, List, length, count_by, Option, Some, None, slice_get}
+use Rattle.std.specs.Prelude.{◌≡◌, ℕ, zero, suc, ◌<◌, ◌≤◌, ◌==◌, ◌&&◌, ◌||◌, nat_le, Bool, true, false, cond, List, length, count_by, Option, Some, None, slice_get}
 use Rattle.ride_base.specs.declared.numbers.RequestNo.{RequestNo}
 use Rattle.road_graph.specs.Graphs.{IsGraph}
 use Rattle.road_graph.specs.Paths.{Path}
@@ -15,7 +15,7 @@ pub use Rattle.stop_schedule.specs.Limits.{most_stops}
 use Rattle.stop_schedule.specs.Rates.{Rates}
 use Rattle.stop_schedule.specs.Plans.{Plan, Course, course_of}
 use Rattle.stop_schedule.specs.Times.{departs, aboard, promised_time}
-use Rattle.stop_schedule.specs.Lists.{new_course, node_or}
+use Rattle.stop_schedule.specs.Lists.{new_course, node_or, stop_node}
 
 -- the test passes at each number below n
 abbrev pub each_below : ℕ → (ℕ → Bool) → Bool
@@ -67,12 +67,12 @@ pub record IsProper (p : Plan) : Type 0 where
       → (l : ℕ) × (d : Stop) × (k < l) × (slice_get p.stops l ≡ Some d) × (d.kind ≡ Dropoff) × (d.no ≡ s.no) × (d.riders ≡ s.riders) × (d.spaces ≡ s.spaces)
   pub as_many_legs : length p.legs ≡ length p.stops
   pub joined : (k : ℕ) (leg : Path) → slice_get p.legs k ≡ Some leg
-      → Joins (cond (k == 0) p.place (node_or p.place (slice_get p.stops (k - 1)))) (node_or p.place (slice_get p.stops k)) leg.nodes
+      → Joins (stop_node p k) (node_or p.place (slice_get p.stops k)) leg.nodes
 
 -- each leg is a least walk of the graph between its two places
 abbrev pub HasLeastWalks : Roads → Plan → Type 0
 HasLeastWalks g p = (k : ℕ) (leg : Path) → slice_get p.legs k ≡ Some leg
-    → IsLeastWalk g (cond (k == 0) p.place (node_or p.place (slice_get p.stops (k - 1)))) (node_or p.place (slice_get p.stops k)) leg
+    → IsLeastWalk g (stop_node p k) (node_or p.place (slice_get p.stops k)) leg
 
 -- there is a graph of which each leg is a least walk
 abbrev pub IsOverAGraph : Plan → Type 0

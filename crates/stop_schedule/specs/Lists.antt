@@ -1,4 +1,4 @@
-use Rattle.std.specs.Prelude.{ℕ, ◌+◌, ◌-◌, ◌==◌, cond, nat_lt, List, [], ◌∷◌, ◌++◌, take, drop, map, Option, Some, None, slice_get, length}
+use Rattle.std.specs.Prelude.{◌≡◌, ℕ, ◌+◌, ◌-◌, ◌==◌, cond, nat_lt, List, [], ◌∷◌, ◌++◌, take, drop, map, Option, Some, None, slice_get, length}
 use Rattle.road_graph.specs.declared.road.NodeNo.{NodeNo}
 use Rattle.road_graph.specs.Paths.{Path, length_of}
 use Rattle.stop_schedule.specs.declared.request.Request.{Request}
@@ -7,7 +7,7 @@ use Rattle.stop_schedule.specs.declared.stop.Insertion.{Insertion}
 use Rattle.stop_schedule.specs.declared.stop.Promise.{Promise}
 use Rattle.stop_schedule.specs.declared.stop.Stop.{Stop}
 use Rattle.stop_schedule.specs.declared.stop.StopKind.TheVariants.{Pickup, Dropoff}
-use Rattle.stop_schedule.specs.Plans.{Plan, Course, course_of, still_halts}
+use Rattle.stop_schedule.specs.Plans.{Plan, Course, course_of, from_front}
 
 abbrev pub pickup_of : Request → Promise → Stop
 pickup_of r promise = record { node = r.pickup; kind = Pickup; no = r.no; riders = r.riders; ready = r.moment; limit = promise.pickup; spaces = r.spaces }
@@ -18,6 +18,10 @@ dropoff_of r promise = record { node = r.dropoff; kind = Dropoff; no = r.no; rid
 -- the stops with a pickup after stop i and a dropoff after stop j, the pickup first where these are one
 abbrev pub with_both : List Stop → Insertion → Stop → Stop → List Stop
 with_both stops at p d = take at.i stops ++ p ∷ take (at.j - at.i) (drop at.i stops) ++ d ∷ drop at.j stops
+
+-- some of the first items were put behind others
+abbrev pub HasPutSome : {X : Type 0} → (before items after : List X) → Type 0
+HasPutSome before items after = (k : ℕ) × (after ≡ before ++ take k items)
 
 -- The legs with the changed ones in their places. Leg i gives way to the legs into and out of the pickup, and leg j, where there
 -- is one, to the legs into and out of the dropoff; where i is j the leg out of the pickup leads to the dropoff.
@@ -33,9 +37,9 @@ start_of at front place = cond (at.i == 0) front place
 -- the old schedule from where the new list starts: where the pickup comes first, from the front, and else from the place
 abbrev pub started : Insertion → Front → Plan → Plan
 started at front p = record p {
-  place = start_of at front.node p.place;
-  departure = start_of at front.time p.departure;
-  halt = start_of at (still_halts front p) p.halt;
+  place = start_of at (from_front front p).place p.place;
+  departure = start_of at (from_front front p).departure p.departure;
+  halt = start_of at (from_front front p).halt p.halt;
 }
 
 -- the new schedule: both stops with the promise's limits, and the given walks as the changed legs
@@ -65,9 +69,17 @@ abbrev pub node_or : NodeNo → Option Stop → NodeNo
 node_or place None = place
 node_or place (Some s) = s.node
 
+-- the node of stop k of a list, counted from 1, and for 0 the one from which it is driven
+abbrev pub node_in : NodeNo → List Stop → ℕ → NodeNo
+node_in start stops k = cond (k == 0) start (node_or start (slice_get stops (k - 1)))
+
 -- the node of stop k, counted from 1, and of the front for 0
 abbrev pub node_at : Front → List Stop → ℕ → NodeNo
-node_at front stops k = cond (k == 0) front.node (node_or front.node (slice_get stops (k - 1)))
+node_at front stops k = node_in front.node stops k
+
+-- the node of stop k of a schedule, counted from 1, and of its place for 0
+abbrev pub stop_node : Plan → ℕ → NodeNo
+stop_node p k = node_in p.place p.stops k
 
 -- From where to where the changed legs lead, in their order: into the pickup; out of it; into the dropoff, where that isn't the
 -- leg out of the pickup; and out of the dropoff, where a stop follows.

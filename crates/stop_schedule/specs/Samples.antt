@@ -12,7 +12,7 @@ use Rattle.stop_schedule.specs.Plans.{Plan, course_of, opening_of, from_front}
 use Rattle.stop_schedule.specs.Times.{departs, arrives, stop_time, stop_times, aboard}
 use Rattle.stop_schedule.specs.Fronts.{front_of}
 use Rattle.stop_schedule.specs.Lists.{inserted_in, new_course, changed_ends, started}
-use Rattle.stop_schedule.specs.Keeping.{keeps, is_feasible}
+use Rattle.stop_schedule.specs.Keeping.{keeps, is_feasible, is_seated}
 
 -- A line of four nodes, both ways, each road of length 10, and one vehicle at node 1 with two seats.
 
@@ -186,6 +186,22 @@ three = record {
 
 three_aboard : map (aboard Seat three.stops) (0 ∷ 1 ∷ 2 ∷ []) ≡ 1 ∷ 0 ∷ 1 ∷ []
 three_aboard = refl
+
+-- who gets off before another gets on: too many are aboard between the two stops, on seats or in wheelchair spaces, though the other rider
+-- who gets on behind them has room
+abbrev in_turn : (riders spaces : ℕ) → List Stop
+in_turn riders spaces =
+    record (stop_at 2 1) { kind = Pickup; riders = riders; spaces = spaces } ∷ record (stop_at 3 1) { riders = riders; spaces = spaces }
+    ∷ record (stop_at 3 2) { kind = Pickup } ∷ stop_at 4 2 ∷ []
+
+all_in_turn : is_seated 2 1 (in_turn 2 1) ≡ true
+all_in_turn = refl
+
+one_seat_short : is_seated 2 1 (in_turn 3 0) ≡ false
+one_seat_short = refl
+
+one_space_short : is_seated 2 1 (in_turn 0 2) ≡ false
+one_space_short = refl
 
 -- the lengths of the new legs, for each shape of changed ones
 same_place : (new_course three (front_of three 0) (ride 5 3 2 0 1) (at 1 1) (11 ∷ 12 ∷ 13 ∷ [])).lengths ≡ 10 ∷ 11 ∷ 12 ∷ 13 ∷ 10 ∷ []

@@ -1,5 +1,6 @@
-ghost use Rattle.std.specs.Prelude.{◌≡◌, ◌≤◌, ◌++◌, length, IfOk, OnOk};
-ghost use Rattle.stop_schedule.specs.Lists.{pickup_of, dropoff_of, with_both, with_legs};
+ghost use Rattle.std.specs.Prelude.{◌≡◌, ◌≤◌, ◌++◌, length, IfOk, OnErr, OnOk};
+ghost use Rattle.stop_schedule.specs.Limits.{most_stops};
+ghost use Rattle.stop_schedule.specs.Lists.{HasPutSome, pickup_of, dropoff_of, with_both, with_legs};
 
 use crate::request::Request;
 use crate::stop::{Insertion, Promise, Stop, StopKind};
@@ -37,7 +38,7 @@ pub fn dropoff_stop(request: &Request, promise: &Promise) -> Stop
     }
 }
 
-/// The stops with a pickup after stop i and a dropoff after stop j.
+/// The stops with a pickup after stop i and a dropoff after stop j. After an error nothing of them is left.
 pub fn stops_with(
     alloc: Global,
     stops: &[Stop],
@@ -47,7 +48,7 @@ pub fn stops_with(
 ) -> Result<Items<Stop>, NoMemory>
     requires order { at.i ≤ at.j }
     requires within { at.j ≤ length stops.now }
-    requires few { length stops.now ≤ 64 }
+    requires few { length stops.now ≤ most_stops }
     ensures { IfOk result (λ all. all ≡ with_both stops.now at pickup dropoff) }
 {
     let mut all = Vec::with_capacity(alloc, stops.len() + 2)?;
@@ -59,9 +60,10 @@ pub fn stops_with(
     Ok(Items::from_vec(all))
 }
 
-/// Puts equal walks at the end.
+/// Puts equal walks at the end. After an error some of the first of them may stand there.
 pub fn add_shares(alloc: Global, all: &mut Vec<Walk>, walks: &[Walk]) -> Result<(), NoMemory>
-    ensures { OnOk result (all.new.items ≡ all.old.items ++ walks.now) }
+    ensures ok { OnOk result (all.new.items ≡ all.old.items ++ walks.now) }
+    ensures err { OnErr result (HasPutSome all.old.items walks.now all.new.items) }
 {
     for walk in walks {
         all.push(walk.share(alloc)?)?;
@@ -69,7 +71,7 @@ pub fn add_shares(alloc: Global, all: &mut Vec<Walk>, walks: &[Walk]) -> Result<
     Ok(())
 }
 
-/// Equal walks.
+/// Equal walks. After an error none of them is left.
 pub fn shares(alloc: Global, walks: &[Walk]) -> Result<Items<Walk>, NoMemory>
     ensures { IfOk result (λ all. all ≡ walks.now) }
 {
@@ -78,7 +80,7 @@ pub fn shares(alloc: Global, walks: &[Walk]) -> Result<Items<Walk>, NoMemory>
     Ok(Items::from_vec(all))
 }
 
-/// The legs with the changed ones in their places.
+/// The legs with the changed ones in their places, as equal walks. After an error none of them is left.
 pub fn legs_with(
     alloc: Global,
     legs: &[Walk],
@@ -87,7 +89,7 @@ pub fn legs_with(
 ) -> Result<Items<Walk>, NoMemory>
     requires order { at.i ≤ at.j }
     requires within { at.j ≤ length legs.now }
-    requires few { length legs.now ≤ 64 }
+    requires few { length legs.now ≤ most_stops }
     requires some { 2 ≤ length changed.now }
     ensures { IfOk result (λ all. all ≡ with_legs legs.now at changed.now) }
 {

@@ -49,7 +49,7 @@ impl NewWalks {
         self.held.as_slice()
     }
 
-    /// Equal walks.
+    /// Equal walks. After an error nothing is left of them, and these are as they were.
     pub fn share(&self, alloc: Global) -> Result<NewWalks, NoMemory>
         ensures { IfOk result (λ walks. walks ≡ self.now) }
     {
