@@ -10,7 +10,8 @@ use ride_base::{Items, NoMemory};
 use std::alloc::Global;
 use stop_schedule::{Params, Schedule, Start};
 
-/// Whether a stop is reached by then, so that the schedule changes. It takes no memory.
+/// Whether a stop is reached at the clock `now` or before, in the units of the roads' weights, so that the schedule changes. It takes no
+/// memory.
 pub fn reaches(schedule: &Schedule, params: &Params, now: u64) -> bool
     ensures { result ≡ not (reached_by params.now schedule.now now == 0) }
 {
@@ -83,7 +84,8 @@ fn left_behind(
     )
 }
 
-/// The schedule without the stops that are reached by then, and these stops in their order. The last of them becomes the node from
+/// The schedule without the stops that are reached at the clock `now` or before, in the units of the roads' weights, and these stops in
+/// their order. The last of them becomes the node from
 /// which the vehicle drives, where it halts and which it leaves as planned. After an error nothing is left of either.
 pub fn advanced(
     alloc: Global,

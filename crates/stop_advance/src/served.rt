@@ -2,7 +2,7 @@ use ride_base::RequestNo;
 use road_graph::NodeNo;
 use stop_schedule::StopKind;
 
-/// A stop that was reached, with its planned times.
+/// A stop that was reached, with its planned times in the units of the roads' weights, below 2^60.
 #[derive(Clone, Copy, Debug, PartialEq, Eq)]
 pub struct Served {
     /// Whether riders got on or off.
@@ -13,6 +13,6 @@ pub struct Served {
     pub node: NodeNo,
     /// When it was reached.
     pub arr: u64,
-    /// When it is left.
+    /// When it is left, not before it was reached.
     pub dep: u64,
 }

@@ -1,6 +1,6 @@
 //! A rider who cancels is taken out of his vehicle's schedule: both his stops go, and the legs around them are joined by least walks.
 //! The layers above use that `joints` and `removed` are exactly the definition's, and the law that a removal breaks no promise and makes
-//! no other stop later.
+//! no other stop later. `Walker` is what finds least walks of one graph.
 #![tactic(auto)]
 
 mod ends;
