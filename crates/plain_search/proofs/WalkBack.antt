@@ -10,6 +10,7 @@ use Rattle.std.proofs.lemmas.Option.{get_or_from_slice_get}
 use Rattle.road_graph.specs.declared.road.NodeNo.{NodeNo}
 use Rattle.road_graph.specs.Roads.{Roads, IsNode, least_weight}
 use Rattle.road_graph.specs.Graphs.{IsGraph}
+use Rattle.road_graph.specs.Limits.{most_walk_nodes}
 use Rattle.road_graph.specs.Paths.{Path, length_of}
 use Rattle.road_graph.specs.Walks.{numbers, walk_length, Joins, IsWalk, IsDist, IsSimple, IsMeasured}
 use Rattle.plain_search.specs.declared.reached.Reached.{Reached}
@@ -152,10 +153,10 @@ length-in_way : (way : Way) (nodes : List NodeNo) → length (in_way way nodes) 
 length-in_way From nodes = length-reverse nodes
 length-in_way To nodes = refl
 
-pub few_traced : (g : Roads) (s : Listing) → AreReached g s → (n : NodeNo) (nodes : List NodeNo) → IsTraced g s n nodes → length (in_way s.way nodes) ≤ 4194304
+pub few_traced : (g : Roads) (s : Listing) → AreReached g s → (n : NodeNo) (nodes : List NodeNo) → IsTraced g s n nodes → length (in_way s.way nodes) ≤ most_walk_nodes
 few_traced g s reached n nodes t = at (distance_of s.listed n) t
   where
-    at : (o : Option ℕ) → MatchOption o (nodes ≡ []) (λ x. IsWalk (faced s.way g) n s.start nodes x × IsSimple nodes) → length (in_way s.way nodes) ≤ 4194304
+    at : (o : Option ℕ) → MatchOption o (nodes ≡ []) (λ x. IsWalk (faced s.way g) n s.start nodes x × IsSimple nodes) → length (in_way s.way nodes) ≤ most_walk_nodes
     at None e = let l = length-in_way s.way nodes in let z = ap length e in omega arith
     at (Some x) w =
         let l = length-in_way s.way nodes in

@@ -54,8 +54,10 @@ impl Nearest {
 
     /// Takes a candidate that none is nearer than.
     pub(crate) fn pop(&mut self) -> Option<Candidate>
-        ensures none { MatchOption result (self.old ≡ []) (λ taken. IsPermutation self.old (taken ∷ self.new)) }
-        ensures nearest { MatchOption result (self.new ≡ []) (λ taken. All (λ other. taken.distance ≤ other.distance) self.new) }
+        ensures none { MatchOption result (self.old ≡ [])
+            (λ taken. IsPermutation self.old (taken ∷ self.new)) }
+        ensures nearest { MatchOption result (self.new ≡ [])
+            (λ taken. All (λ other. taken.distance ≤ other.distance) self.new) }
     {
         let Reverse(nearest) = self.heap.pop()?;
         Some(nearest)

@@ -1,12 +1,11 @@
 use ride_base::Items;
 use road_graph::NodeNo;
 
-/// A value for each node: that of its pair where it is listed, and `rest` where it isn't. No `rest` is larger than
-/// every number.
-///
-/// Nodes rise. Values are in the graph's weight units.
+/// A value for each node, in the graph's weight units: that of its pair where it is listed, and `rest` where it isn't.
 #[derive(Debug, PartialEq, Eq, Drop)]
 pub struct Potential {
+    /// Nodes and their values, in rising order of node.
     pub listed: Items<(NodeNo, u64)>,
+    /// The value of every other node; none is larger than every number.
     pub rest: Option<u64>,
 }

@@ -66,8 +66,10 @@ impl Search {
         ensures same { IfOk result (λ _. IsSameSearch self.old self.new) }
         ensures search { IfOk result (λ _. IsSearchOf (faced self.old.way graph.now) self.new) }
         ensures offered { IfOk result (λ _. AllOfferedIn (faced self.old.way graph.now) self.new) }
-        ensures more { IfOk result (λ found. MatchBool found (HasOneMore self.old self.new) ((self.new.waiting ≡ []) × (self.new.reached ≡ self.old.reached))) }
-        ensures steps { IfOk result (λ _. ReadsListed self.old.way graph.now self.old self.new steps.old.0 steps.new.0) }
+        ensures more { IfOk result (λ found. MatchBool found (HasOneMore self.old self.new)
+            ((self.new.waiting ≡ []) × (self.new.reached ≡ self.old.reached))) }
+        ensures steps { IfOk result (λ _.
+            ReadsListed self.old.way graph.now self.old self.new steps.old.0 steps.new.0) }
         ensures least { steps.old.0 ≤ steps.new.0 }
         ensures most { ReadsNoMore self.old.way graph.now self.old steps.old.0 steps.new.0 }
         ensures asks { steps.new.1 ≡ steps.old.1 }
@@ -95,8 +97,10 @@ impl Search {
         ensures same { IfOk result (λ _. IsSameSearch self.old self.new) }
         ensures search { IfOk result (λ _. IsSearchOf (faced self.old.way graph.now) self.new) }
         ensures offered { IfOk result (λ _. AllOfferedIn (faced self.old.way graph.now) self.new) }
-        ensures ends { IfOk result (λ _. IsSettled self.new.marks.items node ⊎ (self.new.waiting ≡ [])) }
-        ensures steps { IfOk result (λ _. ReadsListed self.old.way graph.now self.old self.new steps.old.0 steps.new.0) }
+        ensures ends { IfOk result
+            (λ _. IsSettled self.new.marks.items node ⊎ (self.new.waiting ≡ [])) }
+        ensures steps { IfOk result (λ _.
+            ReadsListed self.old.way graph.now self.old self.new steps.old.0 steps.new.0) }
         ensures least { steps.old.0 ≤ steps.new.0 }
         ensures most { ReadsNoMore self.old.way graph.now self.old steps.old.0 steps.new.0 }
         ensures asks { steps.new.1 ≡ steps.old.1 }
@@ -114,8 +118,10 @@ impl Search {
         requires marks { nearest.node.0 < length self.old.marks.items }
         requires few { length self.old.reached < 2 ^ 32 }
         ensures same { IfOk result (λ _. IsSameSearch self.old self.new) }
-        ensures reached { IfOk result (λ _. self.new.reached ≡ self.old.reached ++ reached_by nearest ∷ []) }
-        ensures marks { IfOk result (λ _. self.new.marks.items ≡ slice_set self.old.marks.items nearest.node.0 (Settled (length self.old.reached))) }
+        ensures reached { IfOk result
+            (λ _. self.new.reached ≡ self.old.reached ++ reached_by nearest ∷ []) }
+        ensures marks { IfOk result (λ _. self.new.marks.items
+            ≡ slice_set self.old.marks.items nearest.node.0 (Settled (length self.old.reached))) }
         ensures waiting { IfOk result (λ _. self.new.waiting ≡ self.old.waiting) }
     {
         let place = self.reached.len() as u32;
@@ -136,15 +142,19 @@ impl Search {
         steps: &mut Steps<L>,
     ) -> Result<(), NoMemory>
         requires search { IsSearchOf (faced self.old.way graph.now) self.old }
-        requires last { slice_get self.old.reached (length self.old.reached - 1) ≡ Some (reached_by last) }
-        requires offered { AreOffered (faced self.old.way graph.now) self.old.radius self.old.reached self.old.marks.items self.old.waiting 0 }
+        requires last { slice_get self.old.reached (length self.old.reached - 1)
+            ≡ Some (reached_by last) }
+        requires offered { AreOffered (faced self.old.way graph.now) self.old.radius
+            self.old.reached self.old.marks.items self.old.waiting 0 }
         ensures same { IfOk result (λ _. IsSameSearch self.old self.new) }
         ensures reached { IfOk result (λ _. self.new.reached ≡ self.old.reached) }
         ensures search { IfOk result (λ _. IsSearchOf (faced self.old.way graph.now) self.new) }
         ensures offered { IfOk result (λ _. AllOfferedIn (faced self.old.way graph.now) self.new) }
-        ensures steps { IfOk result (λ _. steps.new.0 ≡ steps.old.0 + length (ins (faced self.old.way graph.now) last.node)) }
+        ensures steps { IfOk result (λ _. steps.new.0
+            ≡ steps.old.0 + length (ins (faced self.old.way graph.now) last.node)) }
         ensures least { steps.old.0 ≤ steps.new.0 }
-        ensures most { steps.new.0 ≤ steps.old.0 + length (ins (faced self.old.way graph.now) last.node) }
+        ensures most { steps.new.0
+            ≤ steps.old.0 + length (ins (faced self.old.way graph.now) last.node) }
         ensures asks { steps.new.1 ≡ steps.old.1 }
     {
         for index in 0..road_count(graph, self.way, last.node) {
@@ -163,7 +173,8 @@ impl Search {
         requires { candidate.node.0 < length self.old.marks.items }
         ensures same { IfOk result (λ _. IsSameSearch self.old self.new) }
         ensures reached { IfOk result (λ _. self.new.reached ≡ self.old.reached) }
-        ensures offers { IfOk result (λ _. Offers self.old.radius self.old.marks.items self.new.marks.items self.old.waiting self.new.waiting candidate) }
+        ensures offers { IfOk result (λ _. Offers self.old.radius self.old.marks.items
+            self.new.marks.items self.old.waiting self.new.waiting candidate) }
     {
         if is_known(
             self.radius,

@@ -51,7 +51,8 @@ pub fn reach_from<L>(
     requires radius { IsRadius radius }
     ensures asked { IfOk result (λ r. (r.way ≡ Way.From) × (r.start ≡ from) × (r.radius ≡ radius)) }
     ensures exact { IfOk result (IsReach graph.now) }
-    ensures steps { IfOk result (λ r. steps.new.0 ≡ steps.old.0 + roads_out graph.now (nodes_of r.listed)) }
+    ensures steps { IfOk result
+        (λ r. steps.new.0 ≡ steps.old.0 + roads_out graph.now (nodes_of r.listed)) }
     ensures least { steps.old.0 ≤ steps.new.0 }
     ensures most { steps.new.0 ≤ steps.old.0 + length graph.now.roads }
     ensures asks { steps.new.1 ≡ steps.old.1 }
@@ -71,7 +72,8 @@ pub fn reach_to<L>(
     requires radius { IsRadius radius }
     ensures asked { IfOk result (λ r. (r.way ≡ Way.To) × (r.start ≡ to) × (r.radius ≡ radius)) }
     ensures exact { IfOk result (IsReach graph.now) }
-    ensures steps { IfOk result (λ r. steps.new.0 ≡ steps.old.0 + roads_into graph.now (nodes_of r.listed)) }
+    ensures steps { IfOk result
+        (λ r. steps.new.0 ≡ steps.old.0 + roads_into graph.now (nodes_of r.listed)) }
     ensures least { steps.old.0 ≤ steps.new.0 }
     ensures most { steps.new.0 ≤ steps.old.0 + length graph.now.roads }
     ensures asks { steps.new.1 ≡ steps.old.1 }
@@ -90,7 +92,8 @@ pub fn least_walk<L>(
 ) -> Result<Option<Walk>, NoMemory>
     requires from { IsNode graph.now from }
     requires to { IsNode graph.now to }
-    ensures walk { IfOk result (λ found. MatchOption found (NoWalk graph.now from to) (IsLeastWalk graph.now from to)) }
+    ensures walk { IfOk result (λ found. MatchOption found
+        (NoWalk graph.now from to) (IsLeastWalk graph.now from to)) }
     ensures steps { IfOk result (λ found. AreWalkReads graph.now to found steps.old.0 steps.new.0) }
     ensures least { steps.old.0 ≤ steps.new.0 }
     ensures most { steps.new.0 ≤ steps.old.0 + 2 * length graph.now.roads }
@@ -113,7 +116,8 @@ fn search_all<L>(
     requires radius { IsRadius radius }
     ensures asked { IfOk result (λ r. (r.way ≡ way) × (r.start ≡ start) × (r.radius ≡ radius)) }
     ensures exact { IfOk result (IsReach graph.now) }
-    ensures steps { IfOk result (λ r. steps.new.0 ≡ steps.old.0 + roads_by way graph.now (nodes_of r.listed)) }
+    ensures steps { IfOk result
+        (λ r. steps.new.0 ≡ steps.old.0 + roads_by way graph.now (nodes_of r.listed)) }
     ensures least { steps.old.0 ≤ steps.new.0 }
     ensures most { steps.new.0 ≤ steps.old.0 + length graph.now.roads }
     ensures asks { steps.new.1 ≡ steps.old.1 }
@@ -134,7 +138,9 @@ impl Reach {
     /// The distance of a node from or to the start, where the node is listed.
     pub fn distance(&self, node: NodeNo) -> Option<u64>
         ensures listed { result ≡ distance_of self.now.listed node }
-        ensures exact { (g : Roads) → IsReach g self.now → MatchOption result (IsBeyond self.now.way g self.now.start self.now.radius node) (IsDistBy self.now.way g self.now.start node) }
+        ensures exact { (g : Roads) → IsReach g self.now → MatchOption result
+            (IsBeyond self.now.way g self.now.start self.now.radius node)
+            (IsDistBy self.now.way g self.now.start node) }
     {
         let place = self.place(node)?;
         Some(self.listed.as_slice()[place].distance)
@@ -150,8 +156,11 @@ impl Reach {
         steps: &mut Steps<L>,
     ) -> Result<Option<Walk>, NoMemory>
         requires { IsReach graph.now self.now }
-        ensures walk { IfOk result (λ found. MatchOption found (IsBeyond self.now.way graph.now self.now.start self.now.radius node) (IsLeastWalkBy self.now.way graph.now self.now.start node)) }
-        ensures steps { IfOk result (λ found. steps.new.0 ≡ steps.old.0 + read_along graph.now (nodes_found found)) }
+        ensures walk { IfOk result (λ found. MatchOption found
+            (IsBeyond self.now.way graph.now self.now.start self.now.radius node)
+            (IsLeastWalkBy self.now.way graph.now self.now.start node)) }
+        ensures steps { IfOk result
+            (λ found. steps.new.0 ≡ steps.old.0 + read_along graph.now (nodes_found found)) }
         ensures least { steps.old.0 ≤ steps.new.0 }
         ensures most { steps.new.0 ≤ steps.old.0 + length graph.now.roads }
         ensures asks { steps.new.1 ≡ steps.old.1 }
@@ -161,10 +170,12 @@ impl Reach {
 
     /// The distances as values of all nodes: those that aren't listed have the radius and one more.
     pub fn potential(&self, alloc: Global) -> Result<Potential, NoMemory>
-        ensures values { IfOk result (λ p. (n : NodeNumber) → listed_value p.listed n ≡ distance_of self.now.listed n) }
+        ensures values { IfOk result (λ p. (n : NodeNumber)
+            → listed_value p.listed n ≡ distance_of self.now.listed n) }
         ensures rising { IfOk result (λ p. IsRising p.listed) }
         ensures rest { IfOk result (λ p. p.rest ≡ option_map (λ r. r + 1) self.now.radius) }
-        ensures valid { IfOk result (λ p. (g : Roads) → IsReach g self.now → IsPotential self.now.way g self.now.start p) }
+        ensures valid { IfOk result (λ p. (g : Roads) → IsReach g self.now
+            → IsPotential self.now.way g self.now.start p) }
     {
         let mut listed = Items::new(alloc);
         for mark in &self.marks {
@@ -182,7 +193,12 @@ impl Reach {
     fn of(search: Search) -> Reach
         requires places { ArePlaces search.reached search.marks.items }
         requires radius { IsRadius search.radius }
-        ensures { result ≡ record { way = search.way; start = search.start; radius = search.radius; listed = search.reached } }
+        ensures { result ≡ record {
+          way = search.way;
+          start = search.start;
+          radius = search.radius;
+          listed = search.reached;
+        } }
     {
         let Search {
             way,
@@ -209,8 +225,11 @@ impl Reach {
         steps: &mut Steps<L>,
     ) -> Result<Option<Walk>, NoMemory>
         requires { AreReached graph.now self.now }
-        ensures walk { IfOk result (λ found. MatchOption found (distance_of self.now.listed node ≡ None) (IsLeastWalkBy self.now.way graph.now self.now.start node)) }
-        ensures steps { IfOk result (λ found. steps.new.0 ≡ steps.old.0 + read_along graph.now (nodes_found found)) }
+        ensures walk { IfOk result (λ found. MatchOption found
+            (distance_of self.now.listed node ≡ None)
+            (IsLeastWalkBy self.now.way graph.now self.now.start node)) }
+        ensures steps { IfOk result
+            (λ found. steps.new.0 ≡ steps.old.0 + read_along graph.now (nodes_found found)) }
         ensures least { steps.old.0 ≤ steps.new.0 }
         ensures most { steps.new.0 ≤ steps.old.0 + length graph.now.roads }
         ensures asks { steps.new.1 ≡ steps.old.1 }
@@ -228,14 +247,16 @@ impl Reach {
 
     /// Where a node stands in the list.
     fn place(&self, node: NodeNo) -> Option<usize>
-        ensures { MatchOption result (distance_of self.now.listed node ≡ None) (StandsAt self.now.listed node) }
+        ensures { MatchOption result (distance_of self.now.listed node ≡ None)
+            (StandsAt self.now.listed node) }
     {
         place_of(mark_at(self.marks.as_slice(), node))
     }
 
     /// Where the parent of a listed node stands.
     fn parent_place(&self, reached: Reached) -> Option<usize>
-        ensures { MatchOption reached.parent (result ≡ None) (λ p. MatchOption result (distance_of self.now.listed p ≡ None) (StandsAt self.now.listed p)) }
+        ensures { MatchOption reached.parent (result ≡ None) (λ p. MatchOption result
+            (distance_of self.now.listed p ≡ None) (StandsAt self.now.listed p)) }
     {
         self.place(reached.parent?)
     }
