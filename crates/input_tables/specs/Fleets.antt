@@ -5,7 +5,7 @@ use Rattle.csv.specs.Reading.{default_config, records, strip_bom}
 use Rattle.ride_base.specs.Fields.{is_blank, is_number, value_of}
 use Rattle.road_graph.specs.Roads.{is_node}
 use Rattle.stop_schedule.specs.declared.vehicle.Vehicle.{Vehicle}
-use Rattle.stop_schedule.specs.Limits.{most_vehicles}
+use Rattle.stop_schedule.specs.Limits.{most_riders, most_vehicles}
 use Rattle.input_tables.specs.declared.faults.FleetFault.{FleetFault}
 use Rattle.input_tables.specs.declared.faults.FleetFault.TheVariants.{Large, Header, Form, Range, Double}
 use Rattle.input_tables.specs.Streams.{largest_32, largest_moment}
@@ -43,8 +43,8 @@ vehicle_of number start seats from until spaces =
 -- its number, start, seats and service are ones of a vehicle over so many nodes
 abbrev pub is_in_range : (nodes : ℕ) → Vehicle → Bool
 is_in_range nodes v =
-    nat_le 1 v.no.0 && (nat_le v.no.0 largest_32 && (is_node nodes v.start && (nat_le 1 v.seats && (nat_le v.seats 16
-    && (nat_le v.from largest_moment && (nat_le v.until largest_moment && (nat_le v.from v.until && nat_le v.spaces 16)))))))
+    nat_le 1 v.no.0 && (nat_le v.no.0 largest_32 && (is_node nodes v.start && (nat_le 1 v.seats && (nat_le v.seats most_riders
+    && (nat_le v.from largest_moment && (nat_le v.until largest_moment && (nat_le v.from v.until && nat_le v.spaces most_riders)))))))
 
 -- the number stood in an earlier row
 abbrev pub stood_before : List Vehicle → Vehicle → Bool

@@ -1,7 +1,9 @@
 use Rattle.std.specs.Prelude.{ℕ, ◌≤◌, ◌&&◌, nat_le, Bool, cond, List, [], ◌∷◌, Result, Ok, Err, codes}
 use Rattle.std.specs.Str.{bytes_eq}
 use Rattle.ride_base.specs.Fields.{fields_of, is_number, value_of, begins_comment}
+pub use Rattle.ride_base.specs.Fields.{largest_32}
 use Rattle.stop_schedule.specs.declared.request.Request.{Request}
+use Rattle.stop_schedule.specs.Limits.{latest_moment}
 use Rattle.input_tables.specs.declared.faults.StreamFault.{StreamFault}
 use Rattle.input_tables.specs.declared.faults.StreamFault.TheVariants.{Form, Range}
 use Rattle.input_tables.specs.declared.lines.StreamLine.{StreamLine}
@@ -11,10 +13,7 @@ use Rattle.input_tables.specs.declared.lines.StreamLine.TheVariants.{Ride, Move,
 
 -- the latest moment, and the largest number of a request
 abbrev pub largest_moment : ℕ
-largest_moment = 1099511627776
-
-abbrev pub largest_32 : ℕ
-largest_32 = 4294967295
+largest_moment = latest_moment
 
 abbrev pub are_in_range : (number pickup dropoff moment riders spaces : ℕ) → Bool
 are_in_range number pickup dropoff moment riders spaces =

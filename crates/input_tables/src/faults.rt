@@ -13,8 +13,8 @@ pub enum FleetFault {
     /// The first record isn't `vehicle,start,seats,from,until`, with `,spaces` behind it or not, or there is none.
     #[error("the table doesn't begin with vehicle,start,seats,from,until")]
     Header,
-    /// The row hasn't five fields of digits.
-    #[error("row {row} hasn't five numbers")]
+    /// The row hasn't five fields of digits, or six behind a header with `,spaces`.
+    #[error("row {row} hasn't a number for each name of the header")]
     Form { row: u64 },
     /// A number of the row is out of its range, or there are too many rows.
     #[error("row {row} has a number out of its range")]
@@ -41,7 +41,7 @@ impl From<NoMemory> for FleetFault {
 /// Why a line is none of a stream.
 #[derive(Clone, Copy, Debug, PartialEq, Eq, Error)]
 pub enum StreamFault {
-    /// It is neither a ride, nor a move of the clock, nor a comment, nor blank.
+    /// It is no ride `r`, no move of the clock `t`, no cancellation `y` and no comment, and has a field.
     #[error("the line has none of the forms")]
     Form,
     /// A number is out of its range.

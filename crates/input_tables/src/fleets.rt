@@ -16,25 +16,14 @@ use crate::cells::{RowNumbers, has_spaces, row_numbers};
 use crate::faults::FleetFault;
 use crate::records::{next_record, records_of};
 use csv::{ByteRecord, Reader};
-use ride_base::{Items, LineFault, NoMemory, Shelf, VehicleNo, whole};
+use ride_base::{Items, LARGEST_32, LineFault, NoMemory, Shelf, VehicleNo, whole};
 use road_graph::NodeNo;
 use std::alloc::Global;
 use std::collections::BTreeMap;
-use stop_schedule::Vehicle;
+use stop_schedule::{LATEST_MOMENT, MOST_RIDERS, MOST_VEHICLES, Vehicle};
 
 /// The most bytes of a table.
 const LARGEST_TEXT: u64 = 1 << 24;
-
-const MOST_VEHICLES: u64 = 65_536;
-
-/// The most seats of a vehicle, and the most wheelchair spaces.
-const MOST_SEATS: u64 = 16;
-
-/// The largest number of a vehicle.
-const LARGEST_NUMBER: u64 = 4_294_967_295;
-
-/// The latest begin and end of service.
-const LARGEST_MOMENT: u64 = 1 << 40;
 
 /// The vehicles of a table.
 type Vehicles = BTreeMap<VehicleNo, Vehicle>;
@@ -170,7 +159,7 @@ fn vehicle_in(
     let Some(vehicle) = vehicle(&numbers, nodes) else {
         return Err(FleetFault::Range { row });
     };
-    if row > MOST_VEHICLES {
+    if row > MOST_VEHICLES as u64 {
         return Err(FleetFault::Range { row });
     }
     if before.contains_key(&vehicle.no) {
@@ -184,15 +173,15 @@ fn is_in_range(numbers: &RowNumbers, nodes: u32) -> bool
     ensures { result ≡ is_in_range_of nodes (vehicle_by numbers.now) }
 {
     1 <= numbers.number
-        && numbers.number <= LARGEST_NUMBER
+        && numbers.number <= LARGEST_32
         && 1 <= numbers.start
         && numbers.start <= u64::from(nodes)
         && 1 <= numbers.seats
-        && numbers.seats <= MOST_SEATS
-        && numbers.from <= LARGEST_MOMENT
-        && numbers.until <= LARGEST_MOMENT
+        && numbers.seats <= u64::from(MOST_RIDERS)
+        && numbers.from <= LATEST_MOMENT
+        && numbers.until <= LATEST_MOMENT
         && numbers.from <= numbers.until
-        && numbers.spaces <= MOST_SEATS
+        && numbers.spaces <= u64::from(MOST_RIDERS)
 }
 
 /// The vehicle of a row's numbers over so many nodes. None where one of them is out of its range.

@@ -4,15 +4,12 @@ ghost use Rattle.input_tables.specs.Numbers.{HasNumber, numbers_of, IsOver, Goes
 ghost use Rattle.input_tables.specs.Streams.{IsInRange, stream_line_of, move_of, cancel_of, ranged_ride};
 
 use crate::faults::StreamFault;
-use ride_base::{Line, RequestNo, begins_comment, capped_number, next_field};
+use ride_base::{LARGEST_32, Line, RequestNo, begins_comment, capped_number, next_field};
 use road_graph::NodeNo;
-use stop_schedule::Request;
+use stop_schedule::{LATEST_MOMENT, Request};
 
-/// The latest moment, and the largest number of a request.
-const LARGEST_MOMENT: u64 = 1 << 40;
-
-/// The largest number of a node, and the most riders.
-const LARGEST_32: u64 = 4_294_967_295;
+/// The largest number of a request.
+const LARGEST_NUMBER: u64 = LATEST_MOMENT;
 
 /// What a line of a request stream says.
 #[derive(Clone, Copy, Debug, PartialEq, Eq)]
@@ -83,7 +80,7 @@ fn clock_move(fields: &[u8]) -> Result<StreamLine, StreamFault>
 {
     let (moment, fields) = next_number(fields)?;
     no_field(fields)?;
-    if moment <= LARGEST_MOMENT {
+    if moment <= LATEST_MOMENT {
         Ok(StreamLine::Move(moment))
     } else {
         Err(StreamFault::Range)
@@ -97,7 +94,7 @@ fn cancellation(fields: &[u8]) -> Result<StreamLine, StreamFault>
 {
     let (number, fields) = next_number(fields)?;
     no_field(fields)?;
-    if number <= LARGEST_MOMENT {
+    if number <= LARGEST_NUMBER {
         Ok(StreamLine::Cancel(RequestNo(number)))
     } else {
         Err(StreamFault::Range)
@@ -116,10 +113,10 @@ fn request(
     ensures says { result ≡ ranged_ride no pickup dropoff moment riders spaces }
     ensures ranges { IfOk result IsInRange }
 {
-    if no <= LARGEST_MOMENT
+    if no <= LARGEST_NUMBER
         && pickup <= LARGEST_32
         && dropoff <= LARGEST_32
-        && moment <= LARGEST_MOMENT
+        && moment <= LATEST_MOMENT
         && riders <= LARGEST_32
         && spaces <= LARGEST_32
     {

@@ -14,19 +14,19 @@ returns-in_default-vehicle-clause-vehicle c = λ rows kept.
     let read : row_of c.args.spaces (fields_of c.args.fields.now) ≡ Some c.in-Some.numbers = search rules in
     no_vehicle _ _ _ rows (fields_of c.args.fields.now) (omega (arith, c.ranges.nodes.fits)) c.in-Some.numbers read (search rules)
 
-pub returns-then-row-gt-MOST_VEHICLES-clause-vehicle : goal.returns-then-row-gt-MOST_VEHICLES-clause-vehicle
-returns-then-row-gt-MOST_VEHICLES-clause-vehicle c = λ rows kept.
+pub returns-then-row-clause-vehicle : goal.returns-then-row-clause-vehicle
+returns-then-row-clause-vehicle c = λ rows kept.
     let read : row_of c.args.spaces (fields_of c.args.fields.now) ≡ Some c.in-Some.numbers = search rules in
-    late_row _ _ _ rows (fields_of c.args.fields.now) (omega (arith, c.ranges.nodes.fits)) c.in-Some.numbers read c.in-Some-vehicle.vehicle (sym c.in-Some-vehicle.ensures) c.if-row-gt-MOST_VEHICLES.true
+    late_row _ _ _ rows (fields_of c.args.fields.now) (omega (arith, c.ranges.nodes.fits)) c.in-Some.numbers read c.in-Some-vehicle.vehicle (sym c.in-Some-vehicle.ensures) c.if-row.true
 
 pub returns-then-contains_key-clause-vehicle : goal.returns-then-contains_key-clause-vehicle
 returns-then-contains_key-clause-vehicle c = λ rows kept.
     let read : row_of c.args.spaces (fields_of c.args.fields.now) ≡ Some c.in-Some.numbers = search rules in
     let stood : stood_before rows c.in-Some-vehicle.vehicle ≡ true = sym (stands _ (λ x y. refl) c.in-Some-vehicle.vehicle rows) ∙ rw kept at (sym c.contains_key.ensures ∙ c.if-contains_key.true) in
-    double_row _ _ _ rows (fields_of c.args.fields.now) (omega (arith, c.ranges.nodes.fits)) c.in-Some.numbers read c.in-Some-vehicle.vehicle (sym c.in-Some-vehicle.ensures) c.if-row-gt-MOST_VEHICLES.false stood
+    double_row _ _ _ rows (fields_of c.args.fields.now) (omega (arith, c.ranges.nodes.fits)) c.in-Some.numbers read c.in-Some-vehicle.vehicle (sym c.in-Some-vehicle.ensures) c.if-row.false stood
 
 pub returns-clause-vehicle : goal.returns-clause-vehicle
 returns-clause-vehicle c = λ rows kept.
     let read : row_of c.args.spaces (fields_of c.args.fields.now) ≡ Some c.in-Some.numbers = search rules in
     let new : stood_before rows c.in-Some-vehicle.vehicle ≡ false = sym (stands _ (λ x y. refl) c.in-Some-vehicle.vehicle rows) ∙ rw kept at (sym c.contains_key.ensures ∙ c.if-contains_key.false) in
-    good_row _ _ _ rows (fields_of c.args.fields.now) (omega (arith, c.ranges.nodes.fits)) c.in-Some.numbers read c.in-Some-vehicle.vehicle (sym c.in-Some-vehicle.ensures) c.if-row-gt-MOST_VEHICLES.false new
+    good_row _ _ _ rows (fields_of c.args.fields.now) (omega (arith, c.ranges.nodes.fits)) c.in-Some.numbers read c.in-Some-vehicle.vehicle (sym c.in-Some-vehicle.ensures) c.if-row.false new
