@@ -239,3 +239,8 @@ pub comes_from : (k : Command) (ids : List Word) (table : IsTable k ids) (app gi
     → {Z : Type 0} (words : List (String Z)) (answer : Option (List Row)) → answer ≡ answer_of given (map string_bytes words) → Comes k ids (drop 1 (map string_bytes words)) answer
 comes_from k ids table app given same is named words answer e =
     comes (codes "vaugrenis") k ids table app is named (map string_bytes words) (are_texts words) answer (e ∙ ap (λ a. answer_of a (map string_bytes words)) same)
+
+-- what follows from matches and from none follows from an answer
+pub by_matches : {M P : Type 0} (o : Option M) (rows : M → List Row) (answer : Option (List Row)) → option_map rows o ≡ answer → ((m : M) → o ≡ Some m → Some (rows m) ≡ answer → P) → (o ≡ None → None ≡ answer → P) → P
+by_matches None rows answer e some none = none refl e
+by_matches (Some m) rows answer e some none = some m refl e

@@ -2,6 +2,7 @@ use Rattle.std.specs.Prelude.{ℕ, ◌*◌, ◌==◌, ◌&&◌, nat_le, not, Boo
 use Rattle.std.specs.List.{list_any, before_first, after_first}
 use Rattle.std.specs.Str.{bytes_eq}
 use Rattle.ride_base.specs.Digits.{number_of}
+use Rattle.ride_base.specs.Fields.{largest_32}
 use Rattle.stop_schedule.specs.Rates.{Rates, rates_of, usual}
 
 -- What the words of a command line say.
@@ -207,7 +208,7 @@ audit_form (g ∷ f ∷ j ∷ []) rates = option_map (Audit g f j) rates
 audit_form names rates = None
 
 abbrev pub largest_node : ℕ
-largest_node = 4294967295
+largest_node = largest_32
 
 abbrev pub walk_form : List Word → Option Form
 walk_form (g ∷ from ∷ to ∷ []) = and_then (number_of from largest_node) (λ from. option_map (Walk g from) (number_of to largest_node))

@@ -1,4 +1,4 @@
-ghost use Rattle.std.specs.Prelude.{Bool, IfOk, codes, drop, map};
+ghost use Rattle.std.specs.Prelude.{◌≡◌, Bool, IfOk, IfSome, None, codes, drop, map};
 ghost use Rattle.std.specs.String.{string_bytes};
 ghost use Rattle.clap.specs.Words.{first_value, found_of};
 ghost use Rattle.command_words.specs.Commands.{form_of};
@@ -11,7 +11,8 @@ use clap::ArgMatches;
 use ride_base::{NoMemory, number};
 use std::alloc::Global;
 
-/// What the words of a command line ask for, without the program's own name. None where they are no command line.
+/// What the words of a command line ask for, without the program's own name. None where they are no command line. After an error
+/// nothing is left but the words, and it says nothing of them.
 pub fn form<'a>(alloc: Global, words: &'a [String]) -> Result<Option<Form<'a>>, NoMemory>
     ensures { IfOk result (Shows (form_of (map string_bytes words.entry.now))) }
 {
@@ -35,16 +36,19 @@ fn run<'a>(alloc: Global, words: &'a [String]) -> Result<Option<Form<'a>>, NoMem
     let optioned = words::with_options(alloc, base, &["window"])?;
     let command = words::with_flags(alloc, optioned, &["proof"])?;
     match words::matches(command, words) {
-        Ok(Some(matches)) => Ok(run_of(&matches)),
-        Ok(None) => Ok(None),
+        Ok(matches) => Ok(run_of(&matches)),
         Err(error) => Err(error),
     }
 }
 
-fn run_of<'a>(matches: &ArgMatches<'a>) -> Option<Form<'a>>
-    ensures { (proof : Bool) → HasFlag (found_of matches.now) (codes "proof") proof
-        → Shows (run_by (first_value (found_of matches.now)) proof) result }
+/// The form of the matches, and none exactly where there are none or their values are out of their ranges.
+fn run_of<'a>(matches: &Option<ArgMatches<'a>>) -> Option<Form<'a>>
+    ensures some { IfSome matches.now (λ m. (proof : Bool)
+        → HasFlag (found_of m) (codes "proof") proof
+        → Shows (run_by (first_value (found_of m)) proof) result) }
+    ensures none { matches.now ≡ None → result ≡ None }
 {
+    let Some(matches) = matches else { return None };
     let graph = matches.get_str("graph")?;
     let fleet = matches.get_str("fleet")?;
     let stream = matches.get_str("stream")?;
@@ -65,15 +69,17 @@ fn audit<'a>(alloc: Global, words: &'a [String]) -> Result<Option<Form<'a>>, NoM
 {
     let command = words::command(alloc, &["graph", "fleet", "journal"], &words::PARAMETERS)?;
     match words::matches(command, words) {
-        Ok(Some(matches)) => Ok(audit_of(&matches)),
-        Ok(None) => Ok(None),
+        Ok(matches) => Ok(audit_of(&matches)),
         Err(error) => Err(error),
     }
 }
 
-fn audit_of<'a>(matches: &ArgMatches<'a>) -> Option<Form<'a>>
-    ensures { Shows (audit_by (first_value (found_of matches.now))) result }
+/// The form of the matches, and none exactly where there are none or their values are out of their ranges.
+fn audit_of<'a>(matches: &Option<ArgMatches<'a>>) -> Option<Form<'a>>
+    ensures some { IfSome matches.now (λ m. Shows (audit_by (first_value (found_of m))) result) }
+    ensures none { matches.now ≡ None → result ≡ None }
 {
+    let Some(matches) = matches else { return None };
     let graph = matches.get_str("graph")?;
     let fleet = matches.get_str("fleet")?;
     let journal = matches.get_str("journal")?;
@@ -91,15 +97,17 @@ fn walk<'a>(alloc: Global, words: &'a [String]) -> Result<Option<Form<'a>>, NoMe
 {
     let command = words::command(alloc, &["graph", "from", "to"], &[])?;
     match words::matches(command, words) {
-        Ok(Some(matches)) => Ok(walk_of(&matches)),
-        Ok(None) => Ok(None),
+        Ok(matches) => Ok(walk_of(&matches)),
         Err(error) => Err(error),
     }
 }
 
-fn walk_of<'a>(matches: &ArgMatches<'a>) -> Option<Form<'a>>
-    ensures { Shows (walk_by (first_value (found_of matches.now))) result }
+/// The form of the matches, and none exactly where there are none or their values are out of their ranges.
+fn walk_of<'a>(matches: &Option<ArgMatches<'a>>) -> Option<Form<'a>>
+    ensures some { IfSome matches.now (λ m. Shows (walk_by (first_value (found_of m))) result) }
+    ensures none { matches.now ≡ None → result ≡ None }
 {
+    let Some(matches) = matches else { return None };
     let graph = matches.get_str("graph")?;
     let from = matches.get_str("from")?;
     let to = matches.get_str("to")?;
@@ -113,15 +121,17 @@ fn city<'a>(alloc: Global, words: &'a [String]) -> Result<Option<Form<'a>>, NoMe
 {
     let command = words::command(alloc, &["number"], &[])?;
     match words::matches(command, words) {
-        Ok(Some(matches)) => Ok(city_of(&matches)),
-        Ok(None) => Ok(None),
+        Ok(matches) => Ok(city_of(&matches)),
         Err(error) => Err(error),
     }
 }
 
-fn city_of<'a>(matches: &ArgMatches<'a>) -> Option<Form<'a>>
-    ensures { Shows (gen_by (first_value (found_of matches.now))) result }
+/// The form of the matches, and none exactly where there are none or their values are out of their ranges.
+fn city_of<'a>(matches: &Option<ArgMatches<'a>>) -> Option<Form<'a>>
+    ensures some { IfSome matches.now (λ m. Shows (gen_by (first_value (found_of m))) result) }
+    ensures none { matches.now ≡ None → result ≡ None }
 {
+    let Some(matches) = matches else { return None };
     let text = matches.get_str("number")?;
     let number = number(text.as_bytes(), u64::MAX)?;
     Some(Form::Gen { number })
@@ -133,15 +143,17 @@ fn live<'a>(alloc: Global, words: &'a [String]) -> Result<Option<Form<'a>>, NoMe
     let base = words::command(alloc, &["graph", "fleet", "stream"], &words::PARAMETERS)?;
     let command = words::with_options(alloc, base, &["workers"])?;
     match words::matches(command, words) {
-        Ok(Some(matches)) => Ok(live_of(&matches)),
-        Ok(None) => Ok(None),
+        Ok(matches) => Ok(live_of(&matches)),
         Err(error) => Err(error),
     }
 }
 
-fn live_of<'a>(matches: &ArgMatches<'a>) -> Option<Form<'a>>
-    ensures { Shows (live_by (first_value (found_of matches.now))) result }
+/// The form of the matches, and none exactly where there are none or their values are out of their ranges.
+fn live_of<'a>(matches: &Option<ArgMatches<'a>>) -> Option<Form<'a>>
+    ensures some { IfSome matches.now (λ m. Shows (live_by (first_value (found_of m))) result) }
+    ensures none { matches.now ≡ None → result ≡ None }
 {
+    let Some(matches) = matches else { return None };
     let graph = matches.get_str("graph")?;
     let fleet = matches.get_str("fleet")?;
     let stream = matches.get_str("stream")?;
