@@ -1,3 +1,4 @@
+mod ArrivalTrees
 mod Inserts
 mod Chains
 mod Alike

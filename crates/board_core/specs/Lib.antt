@@ -1,3 +1,4 @@
+pub mod Arrivals
 pub mod Queues
 pub mod Boards
 pub mod FleetViews

@@ -2,6 +2,7 @@
 //! The layers above use that a legal history keeps its promises and leaves the fleet good over its graph.
 #![tactic(auto)]
 
+mod arrivals;
 mod board;
 mod entry;
 mod fleet;
