@@ -15,11 +15,11 @@ above-le zero k = omega arith
 above-le (suc height) k = grind (arith, above-le height k)
 
 -- a node's moment is at most that of each leaf below it
-pub least_below : (leaves : ℕ) (tree : List ℕ) → IsTree leaves tree → (height k : ℕ) → k < 2 * leaves → 1 ≤ above height k → get_or tree (above height k) 0 ≤ get_or tree k 0
+pub least_below : (leaves : ℕ) (tree : List ℕ) → HaveLeast leaves tree → (height k : ℕ) → k < 2 * leaves → 1 ≤ above height k → get_or tree (above height k) 0 ≤ get_or tree k 0
 least_below leaves tree t zero k lt some = omega arith
 least_below leaves tree t (suc height) k lt some =
     let low : above height k ≤ k = above-le height k in
-    let least : HasLeast tree (above height k / 2) = t.least (above height k / 2) some (grind (arith, low, lt)) in
+    let least : HasLeast tree (above height k / 2) = t (above height k / 2) some (grind (arith, low, lt)) in
     let below : get_or tree (above height k) 0 ≤ get_or tree k 0 = least_below leaves tree t height k lt (grind (arith, some)) in
     elim (half (above height k)) [
       | inl e ↦ let e' : get_or tree (above height k) 0 ≡ get_or tree (2 * (above height k / 2)) 0 = ap (λ (i : ℕ). get_or tree i 0) e in omega (arith, e', least, below)
@@ -43,7 +43,7 @@ pub passed_more : (leaves : ℕ) (tree : List ℕ) → IsTree leaves tree → (l
 passed_more leaves tree t leaf now node height some more a = record {
   passed = λ k from lt low. below_more (λ (j : ℕ). above height k ≡ j → now < get_or tree k 0) node
       (λ j below e. a.passed k from lt (omega (arith, below, e)))
-      (λ e. let least : get_or tree (above height k) 0 ≤ get_or tree k 0 = least_below leaves tree t height k lt (omega (arith, e, some)) in
+      (λ e. let least : get_or tree (above height k) 0 ≤ get_or tree k 0 = least_below leaves tree t.least height k lt (omega (arith, e, some)) in
       let same : get_or tree (above height k) 0 ≡ get_or tree node 0 = ap (λ (i : ℕ). get_or tree i 0) e in omega (arith, least, same, more))
       (above height k) low refl;
   later = λ k low. a.later k (omega (arith, low));
@@ -67,7 +67,7 @@ lowered leaves tree leaf now node (suc height) some a = let e : suc height - 1 �
 -- where a node is past, the last leaf stands behind it
 pub sentinel : (leaves : ℕ) (tree : List ℕ) → IsTree leaves tree → (now node height : ℕ) → 1 ≤ node → node ≤ above height (2 * leaves - 1) → now < get_or tree node 0 → node + 1 ≤ above height (2 * leaves - 1)
 sentinel leaves tree t now node height some within more =
-    let least : get_or tree (above height (2 * leaves - 1)) 0 ≤ get_or tree (2 * leaves - 1) 0 = least_below leaves tree t height (2 * leaves - 1) (omega (arith, t.some)) (omega (arith, some, within)) in
+    let least : get_or tree (above height (2 * leaves - 1)) 0 ≤ get_or tree (2 * leaves - 1) 0 = least_below leaves tree t.least height (2 * leaves - 1) (omega (arith, t.some)) (omega (arith, some, within)) in
     let last : get_or tree (2 * leaves - 1) 0 ≡ 0 = t.last in
     below_more (λ (j : ℕ). node ≡ j → node + 1 ≤ above height (2 * leaves - 1)) (above height (2 * leaves - 1))
     (λ j below e. omega (arith, below, e))

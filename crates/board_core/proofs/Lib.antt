@@ -1,4 +1,5 @@
 mod ArrivalTrees
+mod SignTrees
 mod Inserts
 mod Chains
 mod Alike
@@ -12,7 +13,7 @@ mod Advances
 mod Ahead
 mod GoodPlans
 mod Lookups
-mod Held
+mod Queues
 mod Opened
 mod Riders
 mod LessStops

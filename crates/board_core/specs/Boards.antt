@@ -2,15 +2,13 @@ use Rattle.std.specs.Prelude.{ℕ, ◌+◌, ◌||◌, Bool, false, List, [], map
 use Rattle.std.specs.BTreeMap.{is_at}
 use Rattle.std.specs.List.{list_any}
 use Rattle.std.specs.Map.{lookup}
-use Rattle.std.specs.Ordering.{nat_cmp}
-use Rattle.std.specs.declared.cmp.Ordering.{Ordering}
 use Rattle.ride_base.specs.declared.numbers.RequestNo.{RequestNo}
 use Rattle.insertion_cost.specs.declared.decision.Decision.{Decision}
 use Rattle.stop_schedule.specs.declared.vehicle.Vehicle.{Vehicle}
 use Rattle.stop_schedule.specs.Fleets.{Car, Cars}
 use Rattle.stop_schedule.specs.Plans.{opening_of}
 use Rattle.stop_schedule.specs.Rates.{Rates}
-pub use Rattle.board_core.specs.Queues.{Waiting, is_number, waiting_in, is_unheld, unheld_in, with_holder, without}
+pub use Rattle.board_core.specs.Queues.{Waiting, is_number, waiting_in, is_unheld, unheld_in, with_holder, without, by_number}
 
 -- A board: how many nodes its graph has, its fleet with clock and version, whether it is closed, the requests that wait in the
 -- order in which they were accepted, and, as maps and sets are seen, in the order of their numbers, the answers and the numbers
@@ -40,9 +38,6 @@ opening_board nodes rates vehicles = record {
   answers = [];
   cancelled = [];
 }
-
-abbrev pub by_number : RequestNo → RequestNo → Ordering
-by_number a b = nat_cmp a.0 b.0
 
 -- the request of a number that waits
 abbrev pub waiting_of : Board → RequestNo → Option Waiting

@@ -34,7 +34,7 @@ impl Arrivals {
         ensures { IfOk result (λ arrivals. arrivals ≡ replicate count (2 ^ 64 - 1)) }
     {
         let mut tree = vec![in alloc; NEVER; 2 * count + 2]?;
-        put(&mut tree, count, 0);
+        put_leaf(&mut tree, count, 0);
         Ok(Arrivals {
             places: count,
             tree,
@@ -46,7 +46,7 @@ impl Arrivals {
         requires { place < length self.old }
         ensures { self.new ≡ slice_set self.old place moment }
     {
-        put(&mut self.tree, place, moment);
+        put_leaf(&mut self.tree, place, moment);
     }
 
     /// The first place from one on whose moment is at most now.
@@ -67,7 +67,7 @@ impl Arrivals {
 }
 
 /// Sets the moment of a place's leaf, and mends the nodes above it.
-fn put(tree: &mut [u64], place: usize, moment: u64)
+pub(crate) fn put_leaf(tree: &mut [u64], place: usize, moment: u64)
     requires many { length tree.old ≡ 2 * leaves_of tree.old }
     requires place { place < leaves_of tree.old }
     requires least { HaveLeast (leaves_of tree.old) tree.old }

@@ -1,6 +1,6 @@
 use Rattle.std.proofs.Common.{◌≡◌, ◌≢◌, ℕ, ◌<◌, ◌≤◌, drop, slice_set}
 use Rattle.board_core.specs.Arrivals.{HasLeast, leaves_of}
-use Rattle.board_core.proofs.arrivals.put.Given as goal
+use Rattle.board_core.proofs.arrivals.put_leaf.Given as goal
 
 abbrev pub invariant-loop-node : goal.invariant-loop-node
 invariant-loop-node l = record {
