@@ -78,7 +78,7 @@ aboard_rest : (seat : SeatKind) (stops : List Stop) (k i : ℕ) → aboard seat 
 aboard_rest seat stops k i = ap (aboard_before seat) (drop-drop i k stops)
 
 -- the rest keeps its promises
-rest_kept : (rates : Rates) (p : Plan) (k : ℕ) → k ≤ length p.stops → IsKept rates p → IsKept rates (from_stop rates p k)
+pub rest_kept : (rates : Rates) (p : Plan) (k : ℕ) → k ≤ length p.stops → IsKept rates p → IsKept rates (from_stop rates p k)
 rest_kept rates p k l h = record {
   few = (let d = length-drop k p.stops in let f = h.few in omega arith);
   seated = λ i b. (let d = length-drop k p.stops in let s = h.seated (k + i) (omega arith) in (let b = s.0 in let e = aboard_rest Seat p.stops k i in omega arith, let b = s.1 in let e = aboard_rest Space p.stops k i in omega arith));

@@ -48,7 +48,7 @@ rest_ahead rates p now l = let d = length-drop (reached_by rates p now) p.stops 
     let f : suc (reached_by rates p now + 0) ≡ suc (reached_by rates p now) = omega arith in let g = ap (arrives rates.stop (course_of p)) f in omega arith
 
 -- a vehicle under way reaches a node of its leg at a moment or later, where it reaches the end of it no earlier
-reaches : (place : NodeNo) (departure now : ℕ) (nodes : List NodeNo) (offsets : List ℕ) (k : ℕ) → length offsets ≡ length nodes → k < length offsets → now ≤ departure + slice_index offsets k → now ≤ (first_reached place departure now nodes offsets).time
+pub reaches : (place : NodeNo) (departure now : ℕ) (nodes : List NodeNo) (offsets : List ℕ) (k : ℕ) → length offsets ≡ length nodes → k < length offsets → now ≤ departure + slice_index offsets k → now ≤ (first_reached place departure now nodes offsets).time
 reaches place departure now [] offsets k e l h = absurd (omega arith)
 reaches place departure now (n ∷ nodes) [] k e l h = absurd (omega arith)
 reaches place departure now (n ∷ nodes) (o ∷ offsets) zero e l h = let t = le-leb now (departure + o) h in
@@ -93,12 +93,17 @@ first_leg (leg ∷ legs) walks at h l = on at.i h (at.i == at.j)
     on (suc i) h true = refl
     on (suc i) h false = refl
 
--- a schedule that takes in a request stays ahead of the clock
+-- a schedule that takes in a request stays ahead of the clock, where its front is
+pub new_ahead_from : (p : Plan) (front : Front) (now : ℕ) (r : Request) (at : Insertion) (promise : Promise) (walks : List Path) → length p.legs ≡ length p.stops → now ≤ front.time → at.i ≤ at.j → at.j ≤ length p.stops
+    → IsAhead p now → IsAhead (inserted_in p front r at promise walks) now
+new_ahead_from p front now r at promise walks m f l w h _ = on (cases_eq at.i 0)
+  where
+    on : (at.i ≡ 0) ⊎ (at.i ≡ 0 → ⊥) → now ≤ start_of at front.time p.departure + slice_index (map length_of (with_legs p.legs at walks)) 0
+    on (inl e) = let s : start_of at front.time p.departure ≡ front.time = cond-true _ _ _ (eq-eqb at.i 0 e) in omega arith
+    on (inr e) = let s : start_of at front.time p.departure ≡ p.departure = cond-false _ _ _ (ne_eqb at.i 0 e) in
+        let t = first_leg p.legs walks at (omega arith) (omega arith) in let a = h (omega arith) in omega arith
+
+-- so also over least walks
 pub new_ahead : (g : Roads) (rates : Rates) (p : Plan) (now : ℕ) (r : Request) (at : Insertion) (promise : Promise) (walks : List Path) → Chained g p.place p.stops p.legs → at.i ≤ at.j → at.j ≤ length p.stops
     → IsAhead p now → IsAhead (inserted_in p (front_of p now) r at promise walks) now
-new_ahead g rates p now r at promise walks c l w h _ = on (cases_eq at.i 0)
-  where
-    on : (at.i ≡ 0) ⊎ (at.i ≡ 0 → ⊥) → now ≤ start_of at (front_of p now).time p.departure + slice_index (map length_of (with_legs p.legs at walks)) 0
-    on (inl e) = let f = front_ahead g rates p now c h in let s : start_of at (front_of p now).time p.departure ≡ (front_of p now).time = cond-true _ _ _ (eq-eqb at.i 0 e) in omega arith
-    on (inr e) = let s : start_of at (front_of p now).time p.departure ≡ p.departure = cond-false _ _ _ (ne_eqb at.i 0 e) in let m = chained_many g p.place p.stops p.legs c in
-        let t = first_leg p.legs walks at (omega arith) (omega arith) in let a = h (omega arith) in omega arith
+new_ahead g rates p now r at promise walks c l w h = new_ahead_from p (front_of p now) now r at promise walks (chained_many g p.place p.stops p.legs c) (front_ahead g rates p now c h) l w h

@@ -16,7 +16,7 @@ get_take (y ∷ xs) (suc n) zero x h = (omega arith, h)
 get_take (y ∷ xs) (suc n) (suc k) x h = let r = get_take xs n k x h in (let l = r.0 in omega arith, r.1)
 
 -- and the other way round
-take_get : {X : Type 0} (xs : List X) (n k : ℕ) → k < n → slice_get (take n xs) k ≡ slice_get xs k
+pub take_get : {X : Type 0} (xs : List X) (n k : ℕ) → k < n → slice_get (take n xs) k ≡ slice_get xs k
 take_get xs zero k h = absurd (omega arith)
 take_get [] (suc n) k h = refl
 take_get (y ∷ xs) (suc n) zero h = refl

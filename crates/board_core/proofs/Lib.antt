@@ -24,4 +24,15 @@ mod RidersLeft
 mod KeptPromises
 mod DoneInTime
 mod GoodFleets
+mod Each
+mod KeptPlans
+mod KeptFleets
+mod MovedCars
+mod FrontTimes
+mod TakenOn
+mod TakenOff
+mod Joints
+mod KeptBoards
+mod LastStops
+mod Leaving
 pub mod HistoryLaws

@@ -67,17 +67,17 @@ set_other (z ∷ xs) (suc i) zero y h = refl
 set_other (z ∷ xs) (suc i) (suc k) y h = set_other xs i k y (λ (e : k ≡ i). h (ap (λ (n : ℕ). suc n) e))
 
 -- a number compares equal to itself alone
-at_number : (n k : RequestNo) → is_at (by_number n) k ≡ (n.0 == k.0)
+pub at_number : (n k : RequestNo) → is_at (by_number n) k ≡ (n.0 == k.0)
 at_number n k = is_equal n.0 k.0
   where
     is_equal : (x y : ℕ) → is_eq (nat_cmp x y) ≡ (x == y)
     is_equal x y = grind (arith, nat_tests)
 
-abbrev find_answer : RequestNo → List (RequestNo × Decision) → Option Decision
+abbrev pub find_answer : RequestNo → List (RequestNo × Decision) → Option Decision
 find_answer n answers = lookup (is_at (by_number n)) answers
 
 -- an answer that is put in is found by its number, and each other as before
-lookup_insert : (n number : RequestNo) (decision : Decision) (answers : List (RequestNo × Decision))
+pub lookup_insert : (n number : RequestNo) (decision : Decision) (answers : List (RequestNo × Decision))
     → find_answer n (insert_entry by_number answers number decision) ≡ cond (is_at (by_number n) number) (Some decision) (find_answer n answers)
 lookup_insert n number decision [] = refl
 lookup_insert n number decision (e ∷ answers) = by (by_number number e.0) refl (is_at (by_number n) number) refl (is_at (by_number n) e.0) refl (lookup_insert n number decision answers)

@@ -39,7 +39,7 @@ fits rates p front r at lengths h = let a = and_parts _ _ h in let e = and_parts
     record { ordered = leb-true _ _ e.0; within = leb-true _ _ e.1; few = leb-true _ _ d.0; seated = d.1; in_time = c.1; over = b.1 }
 
 -- the new schedule keeps the promises
-new_kept : (rates : Rates) (p q : Plan) (r : Request) (at : Insertion) (promise : Promise) (c : Course) → Fits rates p at c → IsLike (course_of q) c → q.seats ≡ p.seats → q.spaces ≡ p.spaces → q.until ≡ p.until
+pub new_kept : (rates : Rates) (p q : Plan) (r : Request) (at : Insertion) (promise : Promise) (c : Course) → Fits rates p at c → IsLike (course_of q) c → q.seats ≡ p.seats → q.spaces ≡ p.spaces → q.until ≡ p.until
     → q.stops ≡ with_both p.stops at (pickup_of r promise) (dropoff_of r promise) → ((m : ℕ) (s : Stop) → slice_get p.stops m ≡ Some s → slice_get c.stops (past_both at m) ≡ Some s)
     → departs rates.stop c (at.i + 1) ≤ promise.pickup → arrives rates.stop c (at.j + 2) ≤ promise.arrival → IsKept rates q
 new_kept rates p q r at promise c f like seats spaces until stops older leave arrive = record {

@@ -21,19 +21,19 @@ use Rattle.board_core.proofs.SoundBoards.{IsSoundBoard, next_cars, answered_soun
 use Rattle.board_core.proofs.Lookups.{mapped}
 
 -- the last element of a list, or an older one
-last_or : {X : Type 0} (xs : List X) (y : X) (k : ℕ) (x : X) → slice_get (xs ++ y ∷ []) k ≡ Some x → (slice_get xs k ≡ Some x) ⊎ (x ≡ y)
+pub last_or : {X : Type 0} (xs : List X) (y : X) (k : ℕ) (x : X) → slice_get (xs ++ y ∷ []) k ≡ Some x → (slice_get xs k ≡ Some x) ⊎ (x ≡ y)
 last_or [] y zero x h = inr cc
 last_or [] y (suc k) x h = cc
 last_or (z ∷ xs) y zero x h = inl h
 last_or (z ∷ xs) y (suc k) x h = last_or xs y k x h
 
 -- where no reason is told, none holds
-passes : (b : Bool) (reason : Reason) (rest : Option Reason) → cond b (Some reason) rest ≡ None → (b ≡ false) × (rest ≡ None)
+pub passes : (b : Bool) (reason : Reason) (rest : Option Reason) → cond b (Some reason) rest ≡ None → (b ≡ false) × (rest ≡ None)
 passes true reason rest h = cc
 passes false reason rest h = (refl, h)
 
 -- an accepted number has no answer yet
-accepted_new : (b : Board) (r : Request) → refusal b r ≡ None → answer_of b r.no ≡ None
+pub accepted_new : (b : Board) (r : Request) → refusal b r ≡ None → answer_of b r.no ≡ None
 accepted_new b r h = let e = (passes _ Closed _ h).1 in let f = (passes _ Place _ e).1 in let g = (passes _ Riders _ f).1 in let i = (passes _ Moment _ g).1 in none (answer_of b r.no) (or_parts _ _ (passes (was_accepted b r.no) Repeated _ i).0).1
   where
     none : {X : Type 0} (o : Option X) → is_some o ≡ false → o ≡ None

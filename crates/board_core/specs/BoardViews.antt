@@ -2,16 +2,16 @@ use Rattle.std.specs.Prelude.{◌≡◌, ℕ, Option, Some, None, IsSome}
 use Rattle.ride_base.specs.declared.numbers.RequestNo.{RequestNo}
 use Rattle.road_graph.specs.Roads.{Roads}
 use Rattle.stop_schedule.specs.declared.request.Request.{Request}
-use Rattle.board_core.specs.declared.board.Board as code
 use Rattle.board_core.specs.declared.entry.Entry.{Entry}
 use Rattle.board_core.specs.declared.entry.Entry.TheVariants.{Claim}
 use Rattle.board_core.specs.Boards.{Board, Waiting, waiting_of, oldest_unheld}
+use Rattle.board_core.specs.BoardKept.{WithIndex}
 use Rattle.board_core.specs.FleetViews.{cars_of}
 use Rattle.board_core.specs.Steps.{Step}
 
 -- what a board is, apart from the index of its fleet
-abbrev pub board_of : {I : Type 0} → code.Board I → Board
-board_of b = record { nodes = b.nodes; fleet = cars_of b.fleet; closed = b.closed; waiting = b.waiting; answers = b.answers.entries; cancelled = b.cancelled.keys }
+abbrev pub board_of : {I : Type 0} → WithIndex I → Board
+board_of b = record { nodes = b.nodes; fleet = cars_of b.fleet; closed = b.closed; waiting = b.waiting; answers = b.answers; cancelled = b.cancelled }
 
 abbrev pub request_of : Waiting → Request
 request_of w = w.request

@@ -4,6 +4,9 @@ pub mod Boards
 pub mod FleetViews
 pub mod Steps
 pub mod BoardViews
+pub mod BoardCalls
+pub mod BoardKept
+pub mod Changes
 pub mod Histories
 pub mod Promises
 pub mod Laws

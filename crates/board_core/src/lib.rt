@@ -1,12 +1,15 @@
 //! The board: a fleet and its clock, the requests that wait, the answers and what was cancelled, and the entries that change it.
-//! The layers above use that a legal history keeps its promises and leaves the fleet good over its graph.
+//! The layers above use that each call makes its entry exactly, over every graph of the board's number of nodes, and that a legal history
+//! keeps its promises and leaves the fleet good over its graph.
 #![tactic(auto)]
 
 mod arrivals;
 mod board;
+mod changes;
 mod entry;
 mod fleet;
 mod law;
+mod moves;
 mod waiting;
 
 pub use board::Board;

@@ -1,4 +1,4 @@
-use Rattle.std.proofs.Common.{rules, ◌≡◌, ◌+◌, List, sym, subst, arith}
+use Rattle.std.proofs.Common.{◌+◌, List, sym, subst, arith}
 use Rattle.stop_schedule.specs.Fleets.{Car}
 use Rattle.board_core.proofs.Opened.{IsOpenedTo, opened_more, opened_all}
 use Rattle.board_core.proofs.fleet.opening_cars.Goals as goal
