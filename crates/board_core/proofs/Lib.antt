@@ -35,4 +35,5 @@ mod Joints
 mod KeptBoards
 mod LastStops
 mod Leaving
+mod PossibleAnswers
 pub mod HistoryLaws

@@ -1,4 +1,5 @@
-use Rattle.std.specs.Prelude.{◌≡◌, ℕ, suc, ◌<◌, ◌≤◌, false, List, ◌∷◌, ◌++◌, length, Some, slice_get}
+use Rattle.std.specs.Prelude.{◌≡◌, ℕ, suc, ◌<◌, ◌≤◌, ◌^◌, false, List, ◌∷◌, ◌++◌, length, Some, None, slice_get}
+use Rattle.ride_base.specs.declared.numbers.RequestNo.{RequestNo}
 use Rattle.ride_base.specs.declared.numbers.VehicleNo.{VehicleNo}
 use Rattle.road_graph.specs.Graphs.{IsGraph}
 use Rattle.road_graph.specs.Roads.{Roads}
@@ -13,14 +14,20 @@ use Rattle.stop_schedule.specs.Plans.{course_of}
 use Rattle.stop_schedule.specs.Rates.{Rates}
 use Rattle.stop_schedule.specs.Times.{arrives}
 use Rattle.stop_advance.specs.declared.served.Served.{Served}
+use Rattle.stop_removal.specs.declared.removal.Removal.{Removal}
+use Rattle.stop_removal.specs.Removals.{AreStopsOf}
 use Rattle.insertion_cost.specs.declared.decision.Assigned.{Assigned}
+use Rattle.insertion_cost.specs.declared.decision.Decision.{Decision}
+use Rattle.insertion_cost.specs.declared.decision.Decision.TheVariants.{Assigned as IsAssigned, Nobody}
 use Rattle.board_core.specs.declared.entry.Advanced.{Advanced}
 use Rattle.board_core.specs.declared.entry.Advanced.TheVariants.{Moved}
 use Rattle.board_core.specs.declared.entry.Entry.{Entry}
 use Rattle.board_core.specs.declared.entry.Entry.TheVariants.{Advance}
-use Rattle.board_core.specs.Boards.{Board, opening_board}
+use Rattle.board_core.specs.BoardCalls.{IsAnswerTo, IsPossibleFor, HasLeastJoins, MayRemove}
+use Rattle.board_core.specs.Boards.{Board, Waiting, answer_of, opening_board}
 use Rattle.board_core.specs.Histories.{Legal}
 use Rattle.board_core.specs.Promises.{KeepsPromises, IsServedStop, WasAssigned, have_cancelled, served_through}
+use Rattle.board_core.specs.Steps.{cancel_refusal}
 
 -- Every legal history keeps its promises: over every graph, with every parameters and from every fleet.
 abbrev pub LegalHistoriesKeepPromises : Type 0
@@ -55,3 +62,31 @@ abbrev pub LegalHistoriesLeaveGoodFleets : Type 0
 LegalHistoriesLeaveGoodFleets = (g : Roads) (rates : Rates) (vehicles : List Vehicle) (history : List Entry) (last : Board)
     → IsGraph g → AreVehicles g.nodes vehicles → HasEarlyMoves history → Legal g (opening_board g.nodes rates vehicles) history last
     → IsGoodFleet g last.fleet
+
+-- ---- what is right over a graph is possible on the board
+
+-- the direct way of an assignment is shorter than 2^53
+abbrev pub IsShortWay : Decision → ℕ → Type 0
+IsShortWay Nobody direct = Unit {0}
+IsShortWay (IsAssigned a) direct = direct < 2 ^ 53
+
+-- Each answer over a graph of the board's nodes is possible for its request, and its direct way is short.
+abbrev pub AnswersArePossible : Type 0
+AnswersArePossible = (g : Roads) (b : Board) (w : Waiting) (d : Decision) (direct : ℕ) → IsGraph g → g.nodes ≡ b.nodes → IsAnswerTo g b w d direct
+    → IsPossibleFor b w d direct × IsShortWay d direct
+
+-- No reason stands against a removal, and the stops at its positions are the number's in the list of the vehicle that it was given;
+-- nothing is said of its walks.
+pub record CanRemove (b : Board) (number : RequestNo) (x : Removal) : Type 0 where
+  pub assigned : Assigned
+  pub car : Car
+  pub not_refused : cancel_refusal b number ≡ None
+  pub answer : answer_of b number ≡ Some (IsAssigned assigned)
+  pub stands : slice_get b.fleet.cars assigned.offer.place ≡ Some car
+  pub numbered : car.no ≡ x.no
+  pub stops : AreStopsOf number car.plan.stops x.pickup x.dropoff
+
+-- With least walks of the joined legs such a removal is possible, over a graph of the board's nodes over which its fleet is good.
+abbrev pub RemovalsArePossible : Type 0
+RemovalsArePossible = (g : Roads) (b : Board) (number : RequestNo) (x : Removal) → IsGraph g → g.nodes ≡ b.nodes → IsGoodFleet g b.fleet
+    → HasLeastJoins g b number x → CanRemove b number x → MayRemove b number x

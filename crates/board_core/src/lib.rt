@@ -15,5 +15,5 @@ mod waiting;
 pub use board::Board;
 pub use entry::{Advanced, CancelReason, Cancelled, Entry, Reason, Submitted};
 pub use fleet::Fleet;
-pub use law::{fleets_stay_good, promises_are_kept};
+pub use law::{answers_are_possible, fleets_stay_good, promises_are_kept, removals_are_possible};
 pub use waiting::Waiting;
