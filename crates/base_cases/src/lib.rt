@@ -10,6 +10,8 @@ mod leeways;
 #[cfg(test)]
 mod plans;
 #[cfg(test)]
+mod pricers;
+#[cfg(test)]
 mod prices;
 #[cfg(test)]
 mod reckonings;
