@@ -1,4 +1,5 @@
 use Rattle.std.specs.Prelude.{ℕ, ◌+◌, ◌==◌, ◌&&◌, nat_le, cond, List, [], ◌∷◌, Result, Ok, Err}
+use Rattle.ride_base.specs.Fields.{largest_32}
 use Rattle.ride_base.specs.Pieces.{Piece, Whole, TooLong, TooLarge, pieces, largest_text}
 use Rattle.road_graph.specs.declared.road.Road.{Road}
 use Rattle.road_graph.specs.Roads.{Roads, is_node, node}
@@ -10,7 +11,7 @@ use Rattle.dimacs_reader.specs.Forms.{GraphLine, Skipped, Problem, Arc, Formless
 -- What a text says as a graph: its nodes and its roads in their order, or its first bad line and why it is bad.
 
 abbrev pub largest_weight : ℕ
-largest_weight = 4294967295
+largest_weight = largest_32
 
 -- what a value becomes, where there is one
 abbrev pub map_ok : {X Y : Type 0} → (X → Y) → Result X GraphFault → Result Y GraphFault

@@ -13,18 +13,9 @@ ghost use Rattle.dimacs_reader.specs.Refusals.{IsRefusal};
 use crate::faults::GraphFault;
 use crate::forms::{GraphLine, graph_line};
 use crate::lines::CountedLines;
-use ride_base::{Items, Line, NoMemory, Shelf};
-use road_graph::{BuildFault, Graph, NodeNo, Road};
+use ride_base::{Items, LARGEST_32, Line, NoMemory, Shelf};
+use road_graph::{BuildFault, Graph, MOST_NODES, MOST_ROADS, NodeNo, Road};
 use std::alloc::Global;
-
-/// The most nodes that a graph may have.
-pub const MOST_NODES: u64 = 2_097_152;
-
-/// The most roads that a graph may have.
-const MOST_ROADS: u64 = 8_388_608;
-
-/// The largest weight of a road.
-const LARGEST_WEIGHT: u64 = 4_294_967_295;
 
 /// How many nodes and roads a problem line says.
 #[derive(Clone, Copy, Debug)]
@@ -103,7 +94,7 @@ fn problem_of(line: &Line) -> Result<Option<Said>, GraphFault>
     match graph_line(line.bytes.as_slice()) {
         GraphLine::Skipped => Ok(None),
         GraphLine::Problem { nodes, roads } => {
-            if nodes > MOST_NODES || roads > MOST_ROADS {
+            if nodes > u64::from(MOST_NODES) || roads > MOST_ROADS as u64 {
                 return Err(GraphFault::Limit { line: line.number });
             }
             Ok(Some(Said {
@@ -199,7 +190,7 @@ fn road(line: u64, nodes: u32, from: u64, to: u64, weight: u64) -> Result<Road, 
     let (Some(from), Some(to)) = (node(nodes, from), node(nodes, to)) else {
         return Err(GraphFault::Node { line });
     };
-    if weight > LARGEST_WEIGHT {
+    if weight > LARGEST_32 {
         return Err(GraphFault::Weight { line });
     }
     Ok(Road {

@@ -8,9 +8,9 @@ ghost use Rattle.dimacs_reader.specs.Refusals.{IsRefusal};
 
 use crate::faults::GraphFault;
 use crate::forms::{Coordinate, PlaceLine, place_line};
-use crate::graphs::MOST_NODES;
 use crate::lines::CountedLines;
 use ride_base::{Line, NoMemory, Shelf};
+use road_graph::MOST_NODES;
 use std::alloc::Global;
 
 /// A node, counted from 0, and where it lies.
@@ -98,7 +98,7 @@ fn is_header(line: &Line, nodes: u32) -> Result<bool, GraphFault>
     match place_line(line.bytes.as_slice()) {
         PlaceLine::Skipped => Ok(false),
         PlaceLine::Header { nodes: said } => {
-            if said > MOST_NODES {
+            if said > u64::from(MOST_NODES) {
                 return Err(GraphFault::Limit { line: line.number });
             }
             if said != u64::from(nodes) {
