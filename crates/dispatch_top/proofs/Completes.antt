@@ -11,7 +11,7 @@ use Rattle.dispatch_top.specs.Calls.{Call, IsSoOf, Says, Tells, ShelfFailed, Sin
 use Rattle.dispatch_top.specs.Ends.{EndsForm}
 use Rattle.dispatch_top.specs.Forms.{Stage, GraphText as GraphStage, FleetText as FleetStage}
 use Rattle.dispatch_top.specs.Reading.{Read, AreRead, IsReadAs, IsRefusedAs, IsBadAt, IsBadAtRow, Refuses}
-use Rattle.dispatch_top.specs.Streams.{Rides, AtEnd, AtLater, AtBad, rides_of}
+use Rattle.dispatch_top.specs.Streams.{Events, AtEnd, AtBad, events_of}
 
 -- A run over good texts ends by no fault of theirs.
 
@@ -101,12 +101,11 @@ good_refused : (c : Call) (good : Read) (graph : Word) (stages : List Stage) →
     → Refuses names (GraphStage graph ∷ stages) status c → ⊥
 good_refused c good graph stages t names status (read, stage, at, r) = unrefused c good graph stages t read at.before at.after stage at.stands at.are_read status r
 
--- the rides of a stream end in one way
-same_end : (c : Call) (graph stream : Word) (good said : Roads) → Tells c.shelf.held graph (λ text. graph_of text ≡ Ok good) → Says c graph (λ text. graph_of text ≡ Ok said)
-    → Tells c.shelf.held stream (λ text. (rides_of good.nodes text).ends ≡ AtEnd) → (rides : Rides) → Says c stream (λ text. rides_of said.nodes text ≡ rides) → rides.ends ≡ AtEnd
-same_end c graph stream good said t h last rides s =
-    let are = so_of_told (λ text. rides_of said.nodes text ≡ rides) (c.shelf.held stream) last.text last.told s in
-    sym (ap (λ (r : Rides). r.ends) are) ∙ ap (λ (g : Roads). (rides_of g.nodes last.text).ends) (same_roads c graph good said t h) ∙ last.is_so
+-- the events of a stream end in one way
+same_end : (c : Call) (stream : Word) → Tells c.shelf.held stream (λ text. (events_of text).ends ≡ AtEnd) → (events : Events) → Says c stream (λ text. events_of text ≡ events) → events.ends ≡ AtEnd
+same_end c stream last events s =
+    let are = so_of_told (λ text. events_of text ≡ events) (c.shelf.held stream) last.text last.told s in
+    sym (ap (λ (r : Events). r.ends) are) ∙ last.is_so
 
 -- a fault's count didn't rise where its cause isn't
 no_read_fault : (c : Call) (status : Status) → HasCause status c → (ShelfFailed c → ⊥) → status ≡ ReadFault → ⊥
@@ -128,12 +127,10 @@ module _ (c : Call) (graph fleet stream : Word) (options : RunOptions) (good : A
   run_done (FleetText row) (inl h) r w = absurd (good_refused c good.read graph (FleetStage fleet ∷ []) good.are_read (graph ∷ fleet ∷ stream ∷ []) (FleetText row) h)
   run_done (FleetText row) (inr h) r w = absurd h.ends
   run_done NotYet (inl h) r w = absurd h
-  run_done NotYet (inr h) r w =
-      let e = same_end c graph stream good.read.roads h.read.roads good.are_read.0.1 h.are_read.0.1 good.last (record { rides = h.ends.rides; ends = AtLater }) h.ends.said in
-      cc
+  run_done NotYet (inr h) r w = absurd h.ends
   run_done (StreamText line) (inl h) r w = absurd h
   run_done (StreamText line) (inr h) r w =
-      let e = same_end c graph stream good.read.roads h.read.roads good.are_read.0.1 h.are_read.0.1 good.last (record { rides = h.ends.rides; ends = AtBad line }) h.ends.said in
+      let e = same_end c stream good.last (record { events = h.ends.events; ends = AtBad line }) h.ends.said in
       cc
 
 module _ (c : Call) (graph : Word) (from to : ℕ) (good : AreGood c.shelf.held (Walk graph from to)) where

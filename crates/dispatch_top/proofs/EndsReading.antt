@@ -3,7 +3,7 @@ use Rattle.std.proofs.lemmas.Bool.{cases_lt}
 use Rattle.ride_base.specs.Outside.{Held, Rose}
 use Rattle.road_graph.specs.Roads.{Roads}
 use Rattle.dispatch_top.specs.declared.ending.Ending.{Ending}
-use Rattle.dispatch_top.specs.declared.ending.Ending.TheVariants.{NotYet, GraphText, FleetText, StreamText, ReadFault, WriteFault, NoMemory}
+use Rattle.dispatch_top.specs.declared.ending.Ending.TheVariants.{GraphText, FleetText, StreamText, ReadFault, WriteFault, NoMemory}
 use Rattle.dispatch_top.specs.declared.status.Status.TheVariants as status
 use Rattle.dispatch_top.specs.Behaving.{HasCause}
 use Rattle.dispatch_top.specs.Calls.{Call, ShelfFailed, SinkFailed, TookNothing}
@@ -28,7 +28,6 @@ ends_at_graph c name names stages NoMemory (inl h) t =
     (nothing_read, GraphStage name, inl (record { before = []; after = stages; stands = refl; are_read = tt; began = h; took = t }))
 ends_at_graph c name names stages NoMemory (inr h) t =
     (nothing_read, GraphStage name, inr (record { before = []; after = stages; stands = refl; are_read = tt; began = h ∙ sym (append-nil c.shelf.names); took = t }))
-ends_at_graph c name names stages NotYet h t = absurd h
 ends_at_graph c name names stages (FleetText row) h t = absurd h
 ends_at_graph c name names stages (StreamText line) h t = absurd h
 ends_at_graph c name names stages WriteFault h t = absurd h
@@ -56,7 +55,6 @@ module _ (c : Call) (graph name : List ℕ) (more : List (List ℕ)) (stages : L
           (read_so_far, FleetStage name, inl (record { before = GraphStage graph ∷ []; after = stages; stands = refl; are_read = (is_graph, tt); began = both_named k; took = t }))
       on NoMemory (inr k) =
           (read_so_far, FleetStage name, inr (record { before = GraphStage graph ∷ []; after = stages; stands = refl; are_read = (is_graph, tt); began = k ∙ named; took = t }))
-      on NotYet k = absurd k
       on (GraphText line) k = absurd k
       on (StreamText line) k = absurd k
       on WriteFault k = absurd k
@@ -66,7 +64,6 @@ pub fleet_begun : (e : Ending) (held : Held) (nodes : ℕ) (name : List ℕ) (na
 fleet_begun (FleetText row) held nodes name names names' IsBegun left h = inl h.0
 fleet_begun ReadFault held nodes name names names' IsBegun left h = inl h.0
 fleet_begun NoMemory held nodes name names names' IsBegun left h = h
-fleet_begun NotYet held nodes name names names' IsBegun left h = absurd h
 fleet_begun (GraphText line) held nodes name names names' IsBegun left h = absurd h
 fleet_begun (StreamText line) held nodes name names names' IsBegun left h = absurd h
 fleet_begun WriteFault held nodes name names names' IsBegun left h = absurd h
@@ -108,7 +105,6 @@ rose_before old mid new l m (inr h) = inr h
 -- a fault comes only where its count rose
 pub has_cause : (c : Call) (result : Result (Unit {0}) Ending) → (result ≡ Err ReadFault → ShelfFailed c) → (result ≡ Err WriteFault → SinkFailed c) → HasCause (ended_as result) c
 has_cause c (Ok done) r w = tt
-has_cause c (Err NotYet) r w = tt
 has_cause c (Err (GraphText line)) r w = tt
 has_cause c (Err (FleetText row)) r w = tt
 has_cause c (Err (StreamText line)) r w = tt
@@ -119,7 +115,6 @@ has_cause c (Err NoMemory) r w = tt
 -- the status of a read fault is one's alone
 pub is_read_fault : (result : Result (Unit {0}) Ending) → ended_as result ≡ status.ReadFault → result ≡ Err ReadFault
 is_read_fault (Ok done) h = cc
-is_read_fault (Err NotYet) h = cc
 is_read_fault (Err (GraphText line)) h = cc
 is_read_fault (Err (FleetText row)) h = cc
 is_read_fault (Err (StreamText line)) h = cc

@@ -5,11 +5,11 @@ use Rattle.ride_base.specs.Told.{WhereTold}
 use Rattle.ride_base.specs.declared.outside.BeginFault.{BeginFault}
 use Rattle.ride_base.specs.declared.outside.BeginFault.TheVariants.{Failed, NoMemory as BeginNoMemory}
 use Rattle.road_graph.specs.Roads.{Roads}
-use Rattle.stop_schedule.specs.declared.request.Request.{Request}
+use Rattle.board_core.specs.Histories.{Event}
 use Rattle.stop_schedule.specs.declared.vehicle.Vehicle.{Vehicle}
 use Rattle.stop_schedule.specs.Rates.{Rates}
 use Rattle.dispatch_top.specs.declared.ending.Ending.{Ending}
-use Rattle.dispatch_top.specs.declared.ending.Ending.TheVariants.{NotYet, GraphText, FleetText, StreamText, ReadFault, WriteFault, NoMemory}
+use Rattle.dispatch_top.specs.declared.ending.Ending.TheVariants.{GraphText, FleetText, StreamText, ReadFault, WriteFault, NoMemory}
 use Rattle.dispatch_top.specs.Calls.{Call, AreHeld, Began, BeganFirst, Says, ShelfFailed, Stays, TookNothing}
 use Rattle.dispatch_top.specs.Behaving.{Behaves}
 use Rattle.dispatch_top.specs.Endings.{ended_as, ending_of_begin, status_of}
@@ -34,13 +34,12 @@ module _ (c : Call) (stream : List ℕ) (g : Roads) (rates : Rates) (vehicles : 
     says : (P : List ℕ → Type 0) → WhereTold left P → Says c stream P
     says P w = of_held P (c.shelf.held stream) left (subst (λ (x : List ℕ → Held). IsAllOf (x stream) left) holds is_all) w
 
-    said_of : (Asked : List Request → List ℕ → Type 0) (Taken : List ℕ → Type 0) → AreAnsweredAs g rates vehicles (λ rides. WhereTold left (Asked rides)) Taken
-        → AreAnsweredAs g rates vehicles (λ rides. Says c stream (Asked rides)) Taken
-    said_of Asked Taken e = record { rides = e.rides; printed = e.printed; said = says (Asked e.rides) e.said; is_history = e.is_history; took = e.took }
+    said_of : (Asked : List Event → List ℕ → Type 0) (Taken : List ℕ → Type 0) → AreAnsweredAs g rates vehicles (λ events. WhereTold left (Asked events)) Taken
+        → AreAnsweredAs g rates vehicles (λ events. Says c stream (Asked events)) Taken
+    said_of Asked Taken e = record { events = e.events; printed = e.printed; said = says (Asked e.events) e.said; is_history = e.is_history; took = e.took }
 
     pub ends_stream : (result : Result (Unit {0}) Ending) → Streamed g rates vehicles (WhereTold left) result c.shelf'.left c.sink.taken c.sink'.taken → EndsRun rates stream both_read (ended_as result) c
     ends_stream (Ok done) e = (said_of _ _ e.0, says _ e.1)
-    ends_stream (Err NotYet) e = said_of _ _ e
     ends_stream (Err (GraphText line)) e = absurd e
     ends_stream (Err (FleetText row)) e = absurd e
     ends_stream (Err (StreamText line)) e = said_of _ _ e

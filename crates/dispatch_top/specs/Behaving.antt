@@ -1,29 +1,28 @@
 use Rattle.std.specs.Prelude.{◌≡◌, ◌⊎◌, ℕ, true, List, [], Option, Some, None}
 use Rattle.command_words.specs.Commands.{Word, Form, Run, Audit, Walk, Gen, Live}
 use Rattle.ride_base.specs.Outside.{Held}
-use Rattle.road_graph.specs.Roads.{Roads}
 use Rattle.dispatch_top.specs.declared.status.Status.{Status}
 use Rattle.dispatch_top.specs.declared.status.Status.TheVariants.{Done, ReadFault, WriteFault, NoMemory}
 use Rattle.dispatch_top.specs.Calls.{Call, Tells, AreHeld, BeganFirst, Stays, ShelfFailed, SinkFailed}
 use Rattle.dispatch_top.specs.Forms.{is_answered, names_of, stages_of}
 use Rattle.dispatch_top.specs.Reading.{Read, AreRead}
-use Rattle.dispatch_top.specs.Streams.{AtEnd, rides_of}
+use Rattle.dispatch_top.specs.Streams.{AtEnd, events_of}
 
 -- Whom an answer is due, and what holds of a run whatever its status.
 
 -- the text behind those that are read whole goes to its end
-abbrev pub HasGoodLast : (List ℕ → Held) → Roads → Form → Type 0
-HasGoodLast held roads (Run graph fleet stream options) = Tells held stream (λ text. (rides_of roads.nodes text).ends ≡ AtEnd)
-HasGoodLast held roads (Audit graph fleet journal rates) = Unit {0}
-HasGoodLast held roads (Walk graph from to) = Unit {0}
-HasGoodLast held roads (Gen number) = Unit {0}
-HasGoodLast held roads (Live graph fleet stream rates workers) = Unit {0}
+abbrev pub HasGoodLast : (List ℕ → Held) → Form → Type 0
+HasGoodLast held (Run graph fleet stream options) = Tells held stream (λ text. (events_of text).ends ≡ AtEnd)
+HasGoodLast held (Audit graph fleet journal rates) = Unit {0}
+HasGoodLast held (Walk graph from to) = Unit {0}
+HasGoodLast held (Gen number) = Unit {0}
+HasGoodLast held (Live graph fleet stream rates workers) = Unit {0}
 
 -- the texts of a form are told and good
 pub record AreGood (held : List ℕ → Held) (form : Form) : Type 0 where
   pub read : Read
   pub are_read : AreRead (Tells held) read (stages_of form)
-  pub last : HasGoodLast held read.roads form
+  pub last : HasGoodLast held form
 
 -- where the texts of a form that is answered are good, and neither the shelf nor the sink failed, all is answered, or memory was wanted
 abbrev pub IsComplete : Option Form → Status → Call → Type 0

@@ -16,13 +16,13 @@ code_of WriteFault = 7
 code_of NoMemory = 8
 
 -- what is told of each status, where there is something to tell
-abbrev pub line_of : Status → List ℕ
-line_of Done = []
-line_of NotYet = codes "not yet"
-line_of Usage = codes "usage"
-line_of (GraphText line) = codes "graph line " ++ decimal line
-line_of (FleetText row) = codes "fleet row " ++ decimal row
-line_of (StreamText line) = codes "stream line " ++ decimal line
-line_of ReadFault = codes "read fault"
-line_of WriteFault = codes "write fault"
-line_of NoMemory = codes "no memory"
+abbrev pub told_as : Status → List ℕ
+told_as Done = []
+told_as NotYet = codes "not yet"
+told_as Usage = codes "usage"
+told_as (GraphText line) = codes "graph line " ++ decimal line
+told_as (FleetText row) = codes "fleet row " ++ decimal row
+told_as (StreamText line) = codes "stream line " ++ decimal line
+told_as ReadFault = codes "read fault"
+told_as WriteFault = codes "write fault"
+told_as NoMemory = codes "no memory"

@@ -6,12 +6,11 @@ use Rattle.dimacs_reader.specs.declared.faults.GraphFault.TheVariants as graph
 use Rattle.input_tables.specs.declared.faults.FleetFault.{FleetFault}
 use Rattle.input_tables.specs.declared.faults.FleetFault.TheVariants as fleet
 use Rattle.dispatch_top.specs.declared.ending.Ending.{Ending}
-use Rattle.dispatch_top.specs.declared.ending.Ending.TheVariants.{NotYet, GraphText, FleetText, StreamText, ReadFault, WriteFault, NoMemory}
+use Rattle.dispatch_top.specs.declared.ending.Ending.TheVariants.{GraphText, FleetText, StreamText, ReadFault, WriteFault, NoMemory}
 use Rattle.dispatch_top.specs.declared.status.Status.{Status}
 use Rattle.dispatch_top.specs.declared.status.Status.TheVariants as status
 
 abbrev pub status_of : Ending → Status
-status_of NotYet = status.NotYet
 status_of (GraphText line) = status.GraphText line
 status_of (FleetText row) = status.FleetText row
 status_of (StreamText line) = status.StreamText line

@@ -1,50 +1,49 @@
-use Rattle.std.specs.Prelude.{◌≡◌, ℕ, ◌++◌, List, [], map, Option}
+use Rattle.std.specs.Prelude.{◌≡◌, ℕ, ◌++◌, List, map, Option}
 use Rattle.ride_base.specs.Pieces.{Whole, ended_lines, largest_text}
 use Rattle.ride_base.specs.Prefixes.{IsReadTo}
 use Rattle.road_graph.specs.Roads.{Roads}
-use Rattle.stop_schedule.specs.declared.request.Request.{Request}
 use Rattle.stop_schedule.specs.declared.vehicle.Vehicle.{Vehicle}
 use Rattle.stop_schedule.specs.Rates.{Rates}
 use Rattle.board_core.specs.declared.entry.Entry.{Entry}
 use Rattle.board_core.specs.Boards.{Board, opening_board}
-use Rattle.board_core.specs.Histories.{Legal, Ride, events_in, AreAnsweredAtOnce}
+use Rattle.board_core.specs.Histories.{Legal, Event, events_in, AreAnsweredAtOnce}
 use Rattle.board_core.specs.Promises.{KeepsPromises}
 use Rattle.journal_text.specs.Groups.{journal_of}
-use Rattle.dispatch_top.specs.Streams.{StreamEnd, AtEnd, rides_in, rides_of}
+use Rattle.dispatch_top.specs.Streams.{StreamEnd, AtEnd, events_from, events_of}
 
 -- What was printed of a stream.
 
--- These bytes are the lines of one legal history over a graph, from the opening board of these vehicles on: these rides were
--- submitted in order, each was answered at once, and each promise is kept in every prefix of the history.
-pub record IsHistoryOf (roads : Roads) (rates : Rates) (vehicles : List Vehicle) (rides : List Request) (printed : List ℕ) : Type 0 where
+-- These bytes are the lines of one legal history over a graph, from the opening board of these vehicles on: these events came in
+-- order, each request that was accepted was answered at once, and each promise is kept in every prefix of the history.
+pub record IsHistoryOf (roads : Roads) (rates : Rates) (vehicles : List Vehicle) (events : List Event) (printed : List ℕ) : Type 0 where
   pub history : List Entry
   pub last : Board
   pub legal : Legal roads (opening_board roads.nodes rates vehicles) history last
-  pub rides_asked : events_in history ≡ map Ride rides
+  pub asked : events_in history ≡ events
   pub at_once : AreAnsweredAtOnce history
   pub kept : KeepsPromises roads (opening_board roads.nodes rates vehicles) history
   pub rendered : printed ≡ journal_of history
 
--- These rides were answered, of which so much is so, and so much of the lines of their history was taken.
-pub record AreAnsweredAs (roads : Roads) (rates : Rates) (vehicles : List Vehicle) (AreAsked : List Request → Type 0) (Taken : List ℕ → Type 0) : Type 0 where
-  pub rides : List Request
+-- These events were answered, of which so much is so, and so much of the lines of their history was taken.
+pub record AreAnsweredAs (roads : Roads) (rates : Rates) (vehicles : List Vehicle) (AreAsked : List Event → Type 0) (Taken : List ℕ → Type 0) : Type 0 where
+  pub events : List Event
   pub printed : List ℕ
-  pub said : AreAsked rides
-  pub is_history : IsHistoryOf roads rates vehicles rides printed
+  pub said : AreAsked events
+  pub is_history : IsHistoryOf roads rates vehicles events printed
   pub took : Taken printed
 
--- All rides of a stream up to this end. `Says` tells a fact of the stream's text.
+-- All events of a stream up to this end. `Says` tells a fact of the stream's text.
 abbrev pub EndsAt : Roads → Rates → List Vehicle → StreamEnd → (Says : (List ℕ → Type 0) → Type 0) → (Taken : List ℕ → Type 0) → Type 0
-EndsAt roads rates vehicles end Says Taken = AreAnsweredAs roads rates vehicles (λ rides. Says (λ text. rides_of roads.nodes text ≡ record { rides = rides; ends = end })) Taken
+EndsAt roads rates vehicles end Says Taken = AreAnsweredAs roads rates vehicles (λ events. Says (λ text. events_of text ≡ record { events = events; ends = end })) Taken
 
--- the first rides of a stream
+-- the first events of a stream
 abbrev pub EndsEarly : Roads → Rates → List Vehicle → (Says : (List ℕ → Type 0) → Type 0) → (Taken : List ℕ → Type 0) → Type 0
-EndsEarly roads rates vehicles Says Taken = AreAnsweredAs roads rates vehicles (λ rides. Says (λ text. (more : List Request) × ((rides_of roads.nodes text).rides ≡ rides ++ more))) Taken
+EndsEarly roads rates vehicles Says Taken = AreAnsweredAs roads rates vehicles (λ events. Says (λ text. (more : List Event) × ((events_of text).events ≡ events ++ more))) Taken
 
--- the rides of exactly those lines that a line end ends among the bytes that were read, where so much is left
-pub record AreRidesRead (nodes : ℕ) (text : List ℕ) (left : Option (List ℕ)) (rides : List Request) : Type 0 where
+-- the events of exactly those lines that a line end ends among the bytes that were read, where so much is left
+pub record AreEventsRead (text : List ℕ) (left : Option (List ℕ)) (events : List Event) : Type 0 where
   pub read_to : IsReadTo largest_text text left
-  pub are : rides_in nodes [] 1 (map Whole (ended_lines read_to.read)) ≡ record { rides = rides; ends = AtEnd }
+  pub are : events_from 1 (map Whole (ended_lines read_to.read)) ≡ record { events = events; ends = AtEnd }
 
 abbrev pub EndsUnread : Roads → Rates → List Vehicle → (Says : (List ℕ → Type 0) → Type 0) → (left : Option (List ℕ)) → (Taken : List ℕ → Type 0) → Type 0
-EndsUnread roads rates vehicles Says left Taken = AreAnsweredAs roads rates vehicles (λ rides. Says (λ text. AreRidesRead roads.nodes text left rides)) Taken
+EndsUnread roads rates vehicles Says left Taken = AreAnsweredAs roads rates vehicles (λ events. Says (λ text. AreEventsRead text left events)) Taken

@@ -1,99 +1,72 @@
-use Rattle.std.specs.Prelude.{◌≡◌, ℕ, ◌+◌, ◌++◌, Bool, cond, List, [], ◌∷◌, map, None, is_none, Result, Ok, Err, codes, refl}
+use Rattle.std.specs.Prelude.{◌≡◌, ℕ, ◌+◌, ◌++◌, List, [], ◌∷◌, Result, Ok, Err, codes, refl}
 use Rattle.ride_base.specs.Pieces.{Piece, Whole, TooLong, TooLarge, pieces, largest_text}
-use Rattle.stop_schedule.specs.declared.request.Request.{Request}
-use Rattle.stop_schedule.specs.Rates.{usual}
 use Rattle.stop_schedule.specs.Samples.{ride}
 use Rattle.input_tables.specs.declared.faults.StreamFault.{StreamFault}
 use Rattle.input_tables.specs.declared.lines.StreamLine.{StreamLine}
-use Rattle.input_tables.specs.declared.lines.StreamLine.TheVariants.{Ride, Move, Cancel, Nothing}
+use Rattle.input_tables.specs.declared.lines.StreamLine.TheVariants as line
 use Rattle.input_tables.specs.Streams.{stream_line_of}
-use Rattle.board_core.specs.declared.waiting.Waiting.{Waiting}
-use Rattle.board_core.specs.Boards.{Board, opening_board}
-use Rattle.board_core.specs.Steps.{refusal}
+use Rattle.board_core.specs.Histories.{Event, Ride, Move, Withdraw}
 
--- What a stream says: the rides that are answered, and how far they go.
+-- What a stream says: its events, and how far they go. Whether a board refuses an event is no matter of the stream.
 
--- a ride that waits, and that no desk holds
-abbrev pub as_waiting : Request → Waiting
-as_waiting r = record { request = r; holder = None }
-
--- an open board at the clock 0, of so many nodes, which accepted these rides
-abbrev pub board_behind : (nodes : ℕ) → List Request → Board
-board_behind nodes before = record (opening_board nodes usual []) { waiting = map as_waiting before }
-
--- such a board has no reason to refuse the ride
-abbrev pub is_accepted : (nodes : ℕ) → List Request → Request → Bool
-is_accepted nodes before r = is_none (refusal (board_behind nodes before) r)
-
--- where the rides end that are answered
 pub data StreamEnd : Type 0 where
   -- at the end of the text
   AtEnd : StreamEnd
-  -- at a line that isn't answered yet: a move of the clock, a cancellation, or a ride that isn't accepted
-  AtLater : StreamEnd
   -- at the first bad line, of this number
   AtBad : ℕ → StreamEnd
 
-pub record Rides : Type 0 where
-  pub rides : List Request
+pub record Events : Type 0 where
+  pub events : List Event
   pub ends : StreamEnd
 
-abbrev pub no_more : StreamEnd → Rides
-no_more end = record { rides = []; ends = end }
+abbrev pub no_more : StreamEnd → Events
+no_more end = record { events = []; ends = end }
 
-abbrev pub onto_rides : Request → Rides → Rides
-onto_rides r rest = record rest { rides = r ∷ rest.rides }
+-- events, and then those of what follows
+abbrev pub onto : List Event → Events → Events
+onto done rest = record { events = done ++ rest.events; ends = rest.ends }
 
--- the rides from a line on that says this
-abbrev pub from_line : (nodes : ℕ) → List Request → (line : ℕ) → Result StreamLine StreamFault → (nothing : Rides) → (Request → Rides) → Rides
-from_line nodes before line (Ok (Ride r)) nothing another = cond (is_accepted nodes before r) (onto_rides r (another r)) (no_more AtLater)
-from_line nodes before line (Ok (Move now)) nothing another = no_more AtLater
-from_line nodes before line (Ok (Cancel number)) nothing another = no_more AtLater
-from_line nodes before line (Ok Nothing) nothing another = nothing
-from_line nodes before line (Err fault) nothing another = no_more (AtBad line)
+-- the events of one line: one, or none
+abbrev pub events_said : StreamLine → List Event
+events_said (line.Ride r) = Ride r ∷ []
+events_said (line.Move now) = Move now ∷ []
+events_said (line.Cancel number) = Withdraw number ∷ []
+events_said line.Nothing = []
 
--- the rides of the pieces of a text from line number `line` on, behind earlier ones
-abbrev pub rides_in : (nodes : ℕ) → List Request → (line : ℕ) → List Piece → Rides
-rides_in nodes before line [] = no_more AtEnd
-rides_in nodes before line (Whole bytes ∷ more) = from_line nodes before line (stream_line_of bytes) (rides_in nodes before (line + 1) more) (λ r. rides_in nodes (before ++ r ∷ []) (line + 1) more)
-rides_in nodes before line (TooLong ∷ more) = no_more (AtBad line)
-rides_in nodes before line (TooLarge ∷ more) = no_more (AtBad line)
+-- the events from a line on that says this
+abbrev pub from_line : (line : ℕ) → Result StreamLine StreamFault → (rest : Events) → Events
+from_line line (Ok said) rest = onto (events_said said) rest
+from_line line (Err fault) rest = no_more (AtBad line)
 
--- the rides of a text, over a graph of so many nodes
-abbrev pub rides_of : (nodes : ℕ) → List ℕ → Rides
-rides_of nodes text = rides_in nodes [] 1 (pieces largest_text text)
+-- the events of the pieces of a text from line number `line` on
+abbrev pub events_from : (line : ℕ) → List Piece → Events
+events_from line [] = no_more AtEnd
+events_from line (Whole bytes ∷ more) = from_line line (stream_line_of bytes) (events_from (line + 1) more)
+events_from line (TooLong ∷ more) = no_more (AtBad line)
+events_from line (TooLarge ∷ more) = no_more (AtBad line)
 
-abbrev line_of : List ℕ → List ℕ
-line_of text = text ++ 10 ∷ []
+-- the events of a text
+abbrev pub events_of : List ℕ → Events
+events_of text = events_from 1 (pieces largest_text text)
 
-two_rides : rides_of 4 (line_of (codes "r 1 2 4 0 1") ++ line_of (codes "c") ++ codes " r 2  3 4 0 1") ≡ record { rides = ride 1 2 4 0 1 ∷ ride 2 3 4 0 1 ∷ []; ends = AtEnd }
-two_rides = refl
+abbrev ended : List ℕ → List ℕ
+ended text = text ++ 10 ∷ []
 
--- a number that came before, a move of the clock and a line that is none end the rides
-repeated : rides_of 4 (line_of (codes "r 1 2 4 0 1") ++ codes "r 1 3 4 0 1") ≡ record { rides = ride 1 2 4 0 1 ∷ []; ends = AtLater }
-repeated = refl
+one_of_each : events_of (ended (codes "r 1 2 4 0 1") ++ ended (codes "c") ++ ended (codes "t 5") ++ codes " y  1") ≡ record { events = Ride (ride 1 2 4 0 1) ∷ Move 5 ∷ Withdraw (record { 0 = 1 }) ∷ []; ends = AtEnd }
+one_of_each = refl
 
--- a board takes at most 16 riders on seats and 16 in wheelchair spaces, and one at least, between its nodes
-full_group : rides_of 4 (codes "r 1 2 4 0 16") ≡ record { rides = ride 1 2 4 0 16 ∷ []; ends = AtEnd }
-full_group = refl
+-- what a board refuses is an event: a number that came before, no riders, a moment behind the clock
+refused_ones : events_of (ended (codes "t 5") ++ ended (codes "r 1 2 4 9 1") ++ ended (codes "r 1 2 4 0 0") ++ codes "t 3") ≡ record { events = Move 5 ∷ Ride (ride 1 2 4 9 1) ∷ Ride (ride 1 2 4 0 0) ∷ Move 3 ∷ []; ends = AtEnd }
+refused_ones = refl
 
-too_many_riders : rides_of 4 (codes "r 1 2 4 0 17") ≡ no_more AtLater
-too_many_riders = refl
-
-behind_the_last_node : rides_of 4 (codes "r 1 2 5 0 1") ≡ no_more AtLater
-behind_the_last_node = refl
-
-no_rider : rides_of 4 (codes "r 1 2 4 0 0") ≡ no_more AtLater
-no_rider = refl
-
-in_a_chair : rides_of 4 (codes "r 1 2 4 0 0 1") ≡ record { rides = record (ride 1 2 4 0 0) { spaces = 1 } ∷ []; ends = AtEnd }
+in_a_chair : events_of (codes "r 1 2 4 0 0 1") ≡ record { events = Ride (record (ride 1 2 4 0 0) { spaces = 1 }) ∷ []; ends = AtEnd }
 in_a_chair = refl
 
-cancelled : rides_of 4 (codes "y 1") ≡ no_more AtLater
-cancelled = refl
-
-moved : rides_of 4 (line_of (codes "t 5") ++ codes "q") ≡ no_more AtLater
-moved = refl
-
-bad_line : rides_of 4 (line_of (codes "r 1 2 4 0 1") ++ line_of [] ++ line_of (codes "q") ++ codes "r 2 3 4 0 1") ≡ record { rides = ride 1 2 4 0 1 ∷ []; ends = AtBad 3 }
+bad_line : events_of (ended (codes "r 1 2 4 0 1") ++ ended [] ++ ended (codes "q") ++ codes "t 5") ≡ record { events = Ride (ride 1 2 4 0 1) ∷ []; ends = AtBad 3 }
 bad_line = refl
+
+no_moment : events_of (ended (codes "t") ++ codes "t 5") ≡ no_more (AtBad 1)
+no_moment = refl
+
+no_lines : events_of [] ≡ no_more AtEnd
+no_lines = refl

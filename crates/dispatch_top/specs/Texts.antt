@@ -9,7 +9,7 @@ use Rattle.stop_schedule.specs.Bounds.{AreVehicles}
 use Rattle.input_tables.specs.Fleets.{fleet_of}
 use Rattle.input_tables.specs.Refusals.{IsReadWithin}
 use Rattle.dispatch_top.specs.declared.ending.Ending.{Ending}
-use Rattle.dispatch_top.specs.declared.ending.Ending.TheVariants.{NotYet, GraphText, FleetText, StreamText, ReadFault, WriteFault, NoMemory}
+use Rattle.dispatch_top.specs.declared.ending.Ending.TheVariants.{GraphText, FleetText, StreamText, ReadFault, WriteFault, NoMemory}
 use Rattle.dispatch_top.specs.Calls.{IsSoOf}
 use Rattle.dispatch_top.specs.Reading.{IsBadAt, IsBadAtRow}
 
@@ -30,7 +30,6 @@ abbrev pub EndsAtGraph : Held → (name : List ℕ) → (names names' : List (Li
 EndsAtGraph held name names names' IsBegun left (GraphText line) = (names' ≡ names ++ name ∷ []) × IsSoOf held (λ text. IsBadAt (graph_of text) line)
 EndsAtGraph held name names names' IsBegun left ReadFault = (names' ≡ names ++ name ∷ []) × (IsBegun → IsSoOf held (λ text. IsUndecided (graph_of text) text left))
 EndsAtGraph held name names names' IsBegun left NoMemory = MayBeBegun name names names'
-EndsAtGraph held name names names' IsBegun left NotYet = ⊥
 EndsAtGraph held name names names' IsBegun left (FleetText row) = ⊥
 EndsAtGraph held name names names' IsBegun left (StreamText line) = ⊥
 EndsAtGraph held name names names' IsBegun left WriteFault = ⊥
@@ -40,7 +39,6 @@ abbrev pub EndsAtFleet : Held → (nodes : ℕ) → (name : List ℕ) → (names
 EndsAtFleet held nodes name names names' IsBegun left (FleetText row) = (names' ≡ names ++ name ∷ []) × IsSoOf held (λ text. IsBadAtRow (fleet_of nodes text) row)
 EndsAtFleet held nodes name names names' IsBegun left ReadFault = (names' ≡ names ++ name ∷ []) × (IsBegun → IsSoOf held (λ text. IsReadWithin text left))
 EndsAtFleet held nodes name names names' IsBegun left NoMemory = MayBeBegun name names names'
-EndsAtFleet held nodes name names names' IsBegun left NotYet = ⊥
 EndsAtFleet held nodes name names names' IsBegun left (GraphText line) = ⊥
 EndsAtFleet held nodes name names names' IsBegun left (StreamText line) = ⊥
 EndsAtFleet held nodes name names names' IsBegun left WriteFault = ⊥

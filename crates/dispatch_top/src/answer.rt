@@ -1,150 +1,155 @@
-ghost use Rattle.std.specs.Prelude.{◌≡◌, ◌<◌, ◌≤◌, ◌^◌, ◌∷◌, ◌++◌, length, option_to_list, IfOk, OnErr};
-ghost use Rattle.road_graph.specs.Roads.{IsNode};
-ghost use Rattle.stop_schedule.specs.Distances.{AreLeastWalks};
-ghost use Rattle.stop_schedule.specs.Limits.{latest_moment, most_riders};
-ghost use Rattle.stop_schedule.specs.Lists.{changed_ends};
-ghost use Rattle.insertion_cost.specs.Offers.{IsOffer};
-ghost use Rattle.dispatch_top.specs.Ways.{AreReachesOf};
-ghost use Rattle.dispatch_top.specs.Choosing.{AreOverGraphs};
-ghost use Rattle.dispatch_top.specs.Deciding.{AllHaveLeastWalks, Decides, HaveDistances};
-ghost use Rattle.dispatch_top.specs.Deciding.{IsPlanWithRequest};
+ghost use Rattle.std.specs.Prelude.{◌≡◌, ◌<◌, ◌≤◌, ◌^◌, Some, [], ◌∷◌, ◌++◌, IfOk, OnOk};
+ghost use Rattle.road_graph.specs.Roads.{Roads};
+ghost use Rattle.stop_schedule.specs.Fleets.{IsGoodFleet};
+ghost use Rattle.stop_schedule.specs.Limits.{latest_moment};
+ghost use Rattle.insertion_cost.specs.Pricers.{IsAnswerOf, IsRequestIn};
+ghost use Rattle.board_core.specs.BoardViews.{board_of};
+ghost use Rattle.board_core.specs.Boards.{waiting_of};
+ghost use Rattle.board_core.specs.FleetViews.{cars_of};
+ghost use Rattle.board_core.specs.Histories.{Ride, Move, Withdraw};
+ghost use Rattle.dispatch_top.specs.Answering.{AreAnswered, IsCommitted, IsReady};
+ghost use Rattle.board_core.specs.declared.entry.Entry.TheVariants as entry;
+ghost use Rattle.journal_text.specs.Groups.{group};
+ghost use Rattle.journal_text.specs.Printable.{IsPrintable};
+ghost use Rattle.dispatch_top.specs.Answering.{answer_told, as_waiting};
 
-use crate::choosing::{best_of_fleet, node_at};
-use crate::fleet::Fleet;
-use crate::ways::Ways;
-use insertion_cost::{Assigned, Decision, Offer, promise};
-use ride_base::NoMemory;
-use road_graph::{Graph, Steps, Walk};
-use std::alloc::Global;
-use stop_schedule::{Front, Insertion, NewWalks, Request, Schedule, Stop};
+use crate::walker::GraphWalker;
+use board_core::{Board, Entry, Fleet, Submitted, answers_are_possible};
+use insertion_cost::{Decision, PlainPricer};
+use journal_text::render;
+use ride_base::{NoMemory, RequestNo};
+use road_graph::{Graph, Steps};
+use std::alloc::{AllocError, Global};
+use stop_schedule::{NoIndex, Request};
 
-/// The walks side by side, as many as there are.
-fn in_order(
-    alloc: Global,
-    before_pickup: Walk,
-    after_pickup: Walk,
-    before_dropoff: Option<Walk>,
-    after_dropoff: Option<Walk>,
-) -> NewWalks
-    ensures { result ≡ before_pickup ∷ after_pickup
-        ∷ option_to_list before_dropoff ++ option_to_list after_dropoff }
-{
-    let mut walks = NewWalks::new(alloc);
-    walks.push(before_pickup);
-    walks.push(after_pickup);
-    match (before_dropoff, after_dropoff) {
-        (None, None) => {}
-        (Some(walk), None) | (None, Some(walk)) => walks.push(walk),
-        (Some(before_dropoff), Some(after_dropoff)) => {
-            walks.push(before_dropoff);
-            walks.push(after_dropoff);
-        }
-    }
-    walks
-}
-
-/// Least walks of the legs that an insertion changes, in rising order of leg. It leaves no leg out: each has a walk.
-fn changed_walks<L>(
+/// The answer of a fleet to a request, and the length of the direct way, which is 0 where nobody takes it.
+fn decide<L>(
     alloc: Global,
     graph: &Graph,
-    ways: &Ways,
-    stops: &[Stop],
-    front: &Front,
+    fleet: &Fleet<NoIndex>,
     request: &Request,
-    at: Insertion,
     steps: &mut Steps<L>,
-) -> Result<NewWalks, NoMemory>
-    requires order { at.i ≤ at.j }
-    requires within { at.j ≤ length stops.now }
-    requires ways { AreReachesOf graph.now request.now ways.now }
-    requires there { HaveDistances graph.now (changed_ends stops.now front.now request.now at) }
-    ensures least { IfOk result
-        (AreLeastWalks graph.now (changed_ends stops.now front.now request.now at)) }
-    ensures asks { steps.new.1 ≡ steps.old.1 }
+) -> Result<(Decision, u64), NoMemory>
+    requires good { IsGoodFleet graph.now (cars_of fleet.now) }
+    requires request { IsRequestIn graph.now request.now }
+    ensures { IfOk result
+        (λ both. IsAnswerOf graph.now (cars_of fleet.now) request.now both.0 both.1) }
 {
-    let node = node_at(stops, front, at.i);
-    let before_pickup = ways.walk_to_pickup(alloc, graph, node, steps)?.unwrap();
-    let after_dropoff = if at.j < stops.len() {
-        let node = node_at(stops, front, at.j + 1);
-        Some(ways.walk_from_dropoff(alloc, graph, node, steps)?.unwrap())
-    } else {
-        None
-    };
-    if at.i == at.j {
-        let between = ways
-            .walk_from_pickup(alloc, graph, request.dropoff, steps)?
-            .unwrap();
-        return Ok(in_order(alloc, before_pickup, between, None, after_dropoff));
-    }
-    let node = node_at(stops, front, at.i + 1);
-    let after_pickup = ways.walk_from_pickup(alloc, graph, node, steps)?.unwrap();
-    let node = node_at(stops, front, at.j);
-    let before_dropoff = ways.walk_to_dropoff(alloc, graph, node, steps)?.unwrap();
-    Ok(in_order(
-        alloc,
-        before_pickup,
-        after_pickup,
-        Some(before_dropoff),
-        after_dropoff,
-    ))
+    PlainPricer::new(graph).answer(alloc, fleet, request, steps)
 }
 
-/// The walks of an offer, and the schedule of its vehicle with the request put in.
-fn planned<L>(
+/// Adds the lines of a request's answer to a text, and hands the answer back.
+fn tell_answer(
     alloc: Global,
-    graph: &Graph,
-    fleet: &Fleet,
-    request: &Request,
-    ways: &Ways,
-    offer: &Offer,
-    steps: &mut Steps<L>,
-) -> Result<(NewWalks, Schedule), NoMemory>
-    requires moment { request.now.moment ≤ latest_moment }
-    requires riders { request.now.riders ≤ most_riders }
-    requires spaces { request.now.spaces ≤ most_riders }
-    requires over { AreOverGraphs fleet.now }
-    requires ways { AreReachesOf graph.now request.now ways.now }
-    requires offer { IsOffer graph.now fleet.now request.now offer.now }
-    ensures planned { IfOk result
-        (λ both. IsPlanWithRequest graph.now fleet.now request.now offer.now both.0 both.1) }
-    ensures asks { steps.new.1 ≡ steps.old.1 }
-{
-    let schedule = fleet.car(offer.place).schedule();
-    let stops = schedule.stops();
-    let params = fleet.params();
-    let front = schedule.front(0);
-    let direct = ways.from_pickup(request.dropoff).unwrap();
-    let promise = promise(params, request, direct, offer.leave, offer.arrive);
-    let walks = changed_walks(alloc, graph, ways, stops, &front, request, offer.at, steps)?;
-    let new = schedule.inserted(alloc, &front, request, offer.at, &promise, &walks)?;
-    Ok((walks, new))
-}
-
-/// Answers a request: the best insertion of the fleet is made, or nobody takes it. Without memory the fleet stays as it is.
-pub(crate) fn decide<L>(
-    alloc: Global,
-    graph: &Graph,
-    fleet: &mut Fleet,
-    request: &Request,
-    steps: &mut Steps<L>,
+    no: RequestNo,
+    decision: Decision,
+    text: &mut Vec<u8>,
 ) -> Result<Decision, NoMemory>
-    requires pickup { IsNode graph.now request.now.pickup }
-    requires dropoff { IsNode graph.now request.now.dropoff }
-    requires moment { request.now.moment ≤ latest_moment }
-    requires riders { request.now.riders ≤ most_riders }
-    requires spaces { request.now.spaces ≤ most_riders }
-    requires version { fleet.old.version < 2 ^ 62 }
-    requires least { AllHaveLeastWalks graph.now fleet.old }
-    ensures ok { IfOk result (λ d. Decides graph.now fleet.old request.now d fleet.new) }
-    ensures err { OnErr result (fleet.new ≡ fleet.old) }
-    ensures asks { steps.new.1 ≡ steps.old.1 }
+    requires { IsPrintable (entry.Commit no decision) }
+    ensures answer { IfOk result (λ told. told ≡ decision) }
+    ensures text { OnOk result
+        (text.new.items ≡ text.old.items ++ group (entry.Commit no decision)) }
 {
-    let ways = Ways::search(alloc, graph, request, steps)?;
-    let Some(offer) = best_of_fleet(fleet, request, &ways) else {
-        fleet.count_entry();
-        return Ok(Decision::Nobody);
+    let entry = Entry::Commit(no, decision);
+    render(alloc, &entry, text)?;
+    Ok(answer_in(entry).unwrap())
+}
+
+/// The answer that an entry tells, where it tells one.
+fn answer_in(entry: Entry) -> Option<Decision>
+    ensures { result ≡ answer_told entry }
+{
+    let Entry::Commit(_no, decision) = entry else {
+        return None;
     };
-    let (walks, schedule) = planned(alloc, graph, fleet, request, &ways, &offer, steps)?;
-    fleet.take(offer.place, schedule);
-    Ok(Decision::Assigned(Assigned { offer, walks }))
+    Some(decision)
+}
+
+/// Answers a request that waits, and adds the lines of its answer to a text.
+fn answer_waiting<L>(
+    alloc: Global,
+    graph: &Graph,
+    board: &mut Board<NoIndex>,
+    request: &Request,
+    text: &mut Vec<u8>,
+    steps: &mut Steps<L>,
+) -> Result<(), NoMemory>
+    requires version { (board_of board.old).fleet.version < 2 ^ 62 }
+    requires nodes { (board_of board.old).nodes ≡ graph.now.nodes }
+    requires good { IsGoodFleet graph.now (board_of board.old).fleet }
+    requires request { IsRequestIn graph.now request.now }
+    requires waits { waiting_of (board_of board.old) request.now.no
+        ≡ Some (as_waiting request.now) }
+    ensures { OnOk result (IsCommitted graph.now (board_of board.old) request.now.no
+        (board_of board.new) text.old.items text.new.items) }
+{
+    answers_are_possible();
+    graph.nodes();
+    let (decision, direct) = decide(alloc, graph, board.fleet(), request, steps)?;
+    let decision = tell_answer(alloc, request.no, decision, text)?;
+    match board.apply(alloc, request.no, decision, direct, steps) {
+        Ok(()) => Ok(()),
+        Err(_) => Err(AllocError),
+    }
+}
+
+/// Submits a request, and answers it where it is accepted. The lines of its entries are added to an empty text. After an error the
+/// board is of no use.
+pub(crate) fn answer_ride<L>(
+    alloc: Global,
+    graph: &Graph,
+    board: &mut Board<NoIndex>,
+    request: &Request,
+    text: &mut Vec<u8>,
+    steps: &mut Steps<L>,
+) -> Result<(), NoMemory>
+    requires ready { IsReady graph.now (board_of board.old) }
+    requires empty { text.old.items ≡ [] }
+    ensures { OnOk result (AreAnswered graph.now (board_of board.old) (Ride request.now ∷ [])
+        (board_of board.new) text.new.items) }
+{
+    let submitted = board.submit(*request)?;
+    render(alloc, &Entry::Submit(*request, submitted), text)?;
+    match submitted {
+        Submitted::Refused(_) => Ok(()),
+        Submitted::Accepted => answer_waiting(alloc, graph, board, request, text, steps),
+    }
+}
+
+/// Moves the clock. The lines of that entry are added to an empty text. After an error the board is of no use.
+pub(crate) fn answer_move<L>(
+    alloc: Global,
+    board: &mut Board<NoIndex>,
+    now: u64,
+    text: &mut Vec<u8>,
+    steps: &mut Steps<L>,
+) -> Result<(), NoMemory>
+    requires ready { (g : Roads) × IsReady g (board_of board.old) }
+    requires moment { now ≤ latest_moment }
+    requires empty { text.old.items ≡ [] }
+    ensures { (g : Roads) → OnOk result (AreAnswered g (board_of board.old) (Move now ∷ [])
+        (board_of board.new) text.new.items) }
+{
+    let advanced = board.advance(alloc, now, steps)?;
+    render(alloc, &Entry::Advance(now, advanced), text)
+}
+
+/// Takes riders who cancel off the board. The lines of that entry are added to an empty text. After an error the board is of no use.
+pub(crate) fn answer_cancel<L>(
+    alloc: Global,
+    graph: &Graph,
+    board: &mut Board<NoIndex>,
+    no: RequestNo,
+    text: &mut Vec<u8>,
+    steps: &mut Steps<L>,
+) -> Result<(), NoMemory>
+    requires ready { IsReady graph.now (board_of board.old) }
+    requires empty { text.old.items ≡ [] }
+    ensures { OnOk result (AreAnswered graph.now (board_of board.old) (Withdraw no ∷ [])
+        (board_of board.new) text.new.items) }
+{
+    graph.nodes();
+    let walker = GraphWalker::new(graph);
+    let cancelled = board.cancel(alloc, no, &walker, steps)?;
+    render(alloc, &Entry::Cancel(no, cancelled), text)
 }

@@ -6,8 +6,6 @@ use ride_base::{BeginFault, Failed, NoMemory};
 /// Why a run ends early.
 #[derive(Clone, Copy, Debug, PartialEq, Eq)]
 pub enum Ending {
-    /// A line asks for what isn't answered yet.
-    NotYet,
     /// The graph is refused at this line.
     GraphText { line: u64 },
     /// The fleet is refused at this row, or at none (0).
@@ -31,7 +29,6 @@ impl Ending {
         ensures { result ≡ status_of self }
     {
         match self {
-            Ending::NotYet => Status::NotYet,
             Ending::GraphText { line } => Status::GraphText { line },
             Ending::FleetText { row } => Status::FleetText { row },
             Ending::StreamText { line } => Status::StreamText { line },

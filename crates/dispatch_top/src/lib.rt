@@ -3,16 +3,14 @@
 #![tactic(auto)]
 
 mod answer;
-mod choosing;
 mod ending;
-mod fleet;
 mod reading;
 mod run_mode;
 mod runs;
 mod status;
 mod stream;
 mod walk_mode;
-mod ways;
+mod walker;
 mod words;
 
 pub use runs::run;

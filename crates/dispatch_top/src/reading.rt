@@ -1,5 +1,5 @@
-ghost use Rattle.std.specs.Prelude.{◌≡◌, IfOk, IfErr, IsOk, Err};
-ghost use Rattle.ride_base.specs.Outside.{Absent, AddsName, CountRose};
+ghost use Rattle.std.specs.Prelude.{◌≡◌, ◌≢◌, IfOk, IfErr, IsOk, Err};
+ghost use Rattle.ride_base.specs.Outside.{Absent, AddsName, CountRose, CountStays};
 ghost use Rattle.dispatch_top.specs.Texts.{IsGraphOf, IsFleetOf, EndsAtGraph, EndsAtFleet, OnlyBegan};
 
 use crate::ending::Ending;
@@ -21,6 +21,8 @@ pub(crate) fn read_graph_of<S: Shelf>(
     ensures ends { IfErr result (EndsAtGraph (S.held shelf.old name.now) name.now
         (S.names shelf.old) (S.names shelf.new) (S.IsBegun shelf.new) (S.left shelf.new)) }
     ensures rose { result ≡ Err Ending.ReadFault → CountRose S.faults shelf.old shelf.new }
+    ensures quiet { S.IsQuiet → result ≢ Err Ending.ReadFault
+        → CountStays S.faults shelf.old shelf.new }
     ensures surely { S.IsSure shelf.old → (S.held shelf.old name.now ≡ Absent → ⊥)
         → result ≡ Err Ending.ReadFault → ⊥ }
     ensures shelf { OnlyBegan S.held S.IsSure S.faults name.now shelf.old shelf.new }
@@ -41,6 +43,8 @@ pub(crate) fn read_fleet_of<S: Shelf>(
     ensures ends { IfErr result (EndsAtFleet (S.held shelf.old name.now) nodes name.now
         (S.names shelf.old) (S.names shelf.new) (S.IsBegun shelf.new) (S.left shelf.new)) }
     ensures rose { result ≡ Err Ending.ReadFault → CountRose S.faults shelf.old shelf.new }
+    ensures quiet { S.IsQuiet → result ≢ Err Ending.ReadFault
+        → CountStays S.faults shelf.old shelf.new }
     ensures surely { S.IsSure shelf.old → (S.held shelf.old name.now ≡ Absent → ⊥)
         → result ≡ Err Ending.ReadFault → ⊥ }
     ensures shelf { OnlyBegan S.held S.IsSure S.faults name.now shelf.old shelf.new }

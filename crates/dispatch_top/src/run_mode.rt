@@ -1,4 +1,5 @@
-ghost use Rattle.std.specs.Prelude.{◌≡◌, Some, true};
+ghost use Rattle.std.specs.Prelude.{◌≡◌, ◌≢◌, Err, Some, true};
+ghost use Rattle.ride_base.specs.Outside.{CountStays};
 ghost use Rattle.dispatch_top.specs.Asking.{run_form};
 ghost use Rattle.dispatch_top.specs.Behaving.{Behaves};
 ghost use Rattle.dispatch_top.specs.Calls.{seen_call};
@@ -13,7 +14,7 @@ use ride_base::{Shelf, Sink};
 use road_graph::Steps;
 use std::alloc::Global;
 
-/// Reads a graph and a fleet, and answers the rides of a stream over them.
+/// Reads a graph and a fleet, and answers the lines of a stream over them.
 pub(crate) fn answer_run<S: Shelf, K: Sink, L>(
     alloc: Global,
     asked: &RunNames<'_>,
@@ -27,7 +28,10 @@ pub(crate) fn answer_run<S: Shelf, K: Sink, L>(
     ensures behaves { Behaves (Some (run_form asked.now)) (ended_as result)
         (seen_call S.held S.left S.IsBegun S.names S.IsSure S.faults K.taken K.faults
         shelf.old shelf.new sink.old sink.new) }
-    ensures asks { steps.new.1 ≡ steps.old.1 }
+    ensures quiet { S.IsQuiet → result ≢ Err Ending.ReadFault
+        → CountStays S.faults shelf.old shelf.new }
+    ensures kept { K.IsQuiet → result ≢ Err Ending.WriteFault
+        → CountStays K.faults sink.old sink.new }
 {
     let graph = read_graph_of(alloc, asked.graph, shelf)?;
     let vehicles = read_fleet_of(alloc, asked.fleet, graph.nodes(), shelf)?;

@@ -1,4 +1,5 @@
-ghost use Rattle.std.specs.Prelude.{◌≡◌, map, string_bytes};
+ghost use Rattle.std.specs.Prelude.{◌≡◌, ◌≢◌, map, string_bytes};
+ghost use Rattle.ride_base.specs.Outside.{CountStays};
 ghost use Rattle.dispatch_top.specs.Behaving.{Behaves, IsComplete};
 ghost use Rattle.dispatch_top.specs.Calls.{seen_call};
 ghost use Rattle.dispatch_top.specs.Endings.{ended_as};
@@ -16,7 +17,7 @@ use std::alloc::Global;
 use std::thread::Threads;
 
 /// Does what the words of a command line ask, without the program's own name. By `run GRAPH FLEET STREAM` it reads the three texts from
-/// the shelf in this order, and writes the lines of each ride to the sink before it reads the next line; by `walk GRAPH FROM TO` it
+/// the shelf in this order, and writes what became of each line to the sink before it reads the next one; by `walk GRAPH FROM TO` it
 /// writes a least walk. At every status what the names hold is as before, and no line that was answered is lost.
 pub fn run<R: Threads + Sync, S: Shelf, K: Sink, L>(
     _rt: &R,
@@ -35,9 +36,12 @@ pub fn run<R: Threads + Sync, S: Shelf, K: Sink, L>(
     ensures behaves { Behaves (run_asks (map string_bytes words.now)) result
         (seen_call S.held S.left S.IsBegun S.names S.IsSure S.faults K.taken K.faults
         shelf.old shelf.new sink.old sink.new) }
+    ensures quiet { S.IsQuiet → result ≢ Status.ReadFault
+        → CountStays S.faults shelf.old shelf.new }
+    ensures kept { K.IsQuiet → result ≢ Status.WriteFault
+        → CountStays K.faults sink.old sink.new }
     ensures untouched { IsUnanswered (run_asks (map string_bytes words.now))
         → (shelf.new ≡ shelf.old) × (sink.new ≡ sink.old) }
-    ensures asks { steps.new.1 ≡ steps.old.1 }
 {
     match read_words(alloc, words) {
         Ok(Task::Run(asked)) => status(answer_run(alloc, &asked, shelf, sink, steps)),

@@ -7,7 +7,7 @@ use std::fmt;
 pub enum Status {
     /// All was read to the end and answered.
     Done,
-    /// The words have a form, or a line of the stream asks for something, that isn't answered yet. The lines before it are answered.
+    /// The words have a form that isn't answered yet. Nothing is begun and nothing written.
     NotYet,
     /// The words are none of the forms that `run` takes. Nothing is begun and nothing written.
     Usage,
@@ -49,9 +49,9 @@ impl Status {
 /// What is told of a run on the standard error: nothing where it is done.
 impl fmt::Display for Status {
     ghost use Rattle.std.specs.Prelude.{Some};
-    ghost use Rattle.dispatch_top.specs.Codes.{line_of};
+    ghost use Rattle.dispatch_top.specs.Codes.{told_as};
 
-    ghost output = { λ status. Some (line_of status) };
+    ghost output = { λ status. Some (told_as status) };
 
     fn fmt<W: fmt::Write>(&self, f: &mut fmt::Formatter<W>) -> fmt::Result {
         match self {

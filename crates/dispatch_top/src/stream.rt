@@ -1,29 +1,26 @@
-ghost use Rattle.std.specs.Prelude.{◌≡◌, true, false, ◌+◌, ◌≤◌, ◌<◌, ◌^◌, IfOk, IsOk, OnErr, Err, None, IfSome};
-ghost use Rattle.ride_base.specs.Outside.{Rose, OnlyRead};
+ghost use Rattle.std.specs.Prelude.{◌≡◌, ◌≢◌, true, false, ◌+◌, ◌≤◌, IfOk, IsOk, Err, None, IfSome};
+ghost use Rattle.ride_base.specs.Outside.{CountStays, OnlyRead, Rose};
 ghost use Rattle.ride_base.specs.Prefixes.{HasReadGiven};
 ghost use Rattle.ride_base.specs.Told.{WhereTold};
-ghost use Rattle.road_graph.specs.Roads.{IsNode};
 ghost use Rattle.stop_schedule.specs.Bounds.{AreVehicles};
-ghost use Rattle.stop_schedule.specs.Limits.{latest_moment, most_riders};
-ghost use Rattle.dispatch_top.specs.Deciding.{AllHaveLeastWalks};
-ghost use Rattle.dispatch_top.specs.Streaming.{AreMore, AsksInTime, LineAnswer, RideAnswer, Streamed};
-ghost use Rattle.dispatch_top.specs.Streaming.{HistoriesKeepPromises};
+ghost use Rattle.input_tables.specs.Streams.{stream_line_of};
+ghost use Rattle.board_core.specs.BoardViews.{board_of};
+ghost use Rattle.dispatch_top.specs.Answering.{IsReady};
+ghost use Rattle.dispatch_top.specs.Streaming.{HistoriesAreGood, LineAnswer, Streamed};
 ghost use Rattle.dispatch_top.specs.Streaming.{LineCounts, LineGiven, LineGoesOn};
-ghost use Rattle.dispatch_top.specs.Streaming.{accepted_by, asked_of, ending_of_line};
+ghost use Rattle.dispatch_top.specs.Streaming.{ending_of_line};
 
-use crate::answer::decide;
+use crate::answer::{answer_cancel, answer_move, answer_ride};
 use crate::ending::Ending;
-use crate::fleet::Fleet;
-use board_core::{Entry, Submitted, promises_are_kept};
+use board_core::{Board, fleets_stay_good, promises_are_kept};
 use input_tables::{StreamLine, stream_line};
-use journal_text::render;
-use ride_base::{LARGEST_TEXT, Line, LineFault, Lines, RequestNo, Shelf, Sink, write_whole};
+use ride_base::{LARGEST_TEXT, Line, LineFault, Lines, Shelf, Sink, write_whole};
 use road_graph::{Graph, Steps};
 use std::alloc::Global;
-use std::collections::BTreeSet;
-use stop_schedule::{Params, Request, Vehicle};
+use stop_schedule::{NoIndex, Params, Vehicle};
 
-/// Answers the rides of the text that is begun, one after another, from the vehicles at their starts on.
+/// Answers the lines of the text that is begun, one after another, from the vehicles at their starts on. The lines of an answer are
+/// written by one call, before the next line is read.
 pub(crate) fn answer_stream<S: Shelf, K: Sink, L>(
     alloc: Global,
     graph: &Graph,
@@ -41,31 +38,36 @@ pub(crate) fn answer_stream<S: Shelf, K: Sink, L>(
     ensures surely { S.IsSure shelf.old → result ≡ Err Ending.ReadFault → ⊥ }
     ensures written { result ≡ Err Ending.WriteFault
         → Rose (K.faults sink.old) (K.faults sink.new) }
+    ensures kept { K.IsQuiet → result ≢ Err Ending.WriteFault
+        → CountStays K.faults sink.old sink.new }
+    ensures quiet { S.IsQuiet → result ≢ Err Ending.ReadFault
+        → CountStays S.faults shelf.old shelf.new }
     ensures counted { K.faults sink.old ≤ K.faults sink.new }
-    ensures asks { steps.new.1 ≡ steps.old.1 }
     ensures shelf { OnlyRead S.IsBegun S.held S.names S.IsSure S.faults shelf.old shelf.new }
 {
-    histories_keep_promises(graph);
-    let mut fleet = Fleet::opening(alloc, params, vehicles)?;
+    histories_are_good(graph);
+    let mut board = Board::opening(alloc, graph.nodes(), params, vehicles, NoIndex)?;
     let mut lines = Lines::new(alloc, LARGEST_TEXT);
-    let mut numbers = BTreeSet::new(alloc);
+    let mut text = Vec::new(alloc);
     'lines: loop {
         let Some(line) = next_line(alloc, &mut lines, shelf)? else {
             return Ok(());
         };
-        answer_line(alloc, graph, &mut numbers, &mut fleet, &line, sink, steps)?;
+        answer_line(alloc, graph, &mut board, &line, &mut text, steps)?;
+        write_whole(sink, text.as_slice())?;
         if !line.ended {
             return Ok(());
         }
     }
 }
 
-/// Every legal history over a graph keeps its promises. It does nothing: the law is its contract.
-fn histories_keep_promises(graph: &Graph)
-    ensures { HistoriesKeepPromises graph.now }
+/// Every legal history over a graph keeps its promises and leaves a good fleet. It does nothing: the laws are its contract.
+fn histories_are_good(graph: &Graph)
+    ensures { HistoriesAreGood graph.now }
 {
     graph.nodes();
     promises_are_kept();
+    fleets_stay_good();
 }
 
 /// The next line. None comes exactly at the end of the text.
@@ -85,6 +87,8 @@ fn next_line<S: Shelf>(
     ensures over { IfOk result (λ o. IfSome o (λ line. line.ended ≡ true
         → lines.new.over ≡ false)) }
     ensures unstopped { IsOk result → lines.new.stopped ≡ None }
+    ensures quiet { S.IsQuiet → result ≢ Err Ending.ReadFault
+        → CountStays S.faults shelf.old shelf.new }
     ensures fault { result ≡ Err Ending.ReadFault → Rose (S.faults shelf.old) (S.faults shelf.new) }
     ensures surely { S.IsSure shelf.old → result ≡ Err Ending.ReadFault → ⊥ }
     ensures shelf { OnlyRead S.IsBegun S.held S.names S.IsSure S.faults shelf.old shelf.new }
@@ -107,115 +111,28 @@ fn ending_of(fault: LineFault, line: u64) -> Ending
     }
 }
 
-/// Answers what a line asks for, and keeps the numbers of the rides.
-fn answer_line<K: Sink, L>(
+/// Answers what a line asks for. Its lines are all that the text then has.
+fn answer_line<L>(
     alloc: Global,
     graph: &Graph,
-    numbers: &mut BTreeSet<u64>,
-    fleet: &mut Fleet,
+    board: &mut Board<NoIndex>,
     line: &Line,
-    sink: &mut K,
+    text: &mut Vec<u8>,
     steps: &mut Steps<L>,
 ) -> Result<(), Ending>
-    requires version { fleet.old.version < 2 ^ 61 }
-    requires walks { AllHaveLeastWalks graph.now fleet.old }
-    ensures answered { LineAnswer graph.now numbers.old fleet.old
-        (asked_of graph.now.nodes numbers.old line.now) result numbers.new fleet.new
-        (K.taken sink.old) (K.taken sink.new) }
-    ensures unread { result ≡ Err Ending.ReadFault → ⊥ }
-    ensures moments { AsksInTime (asked_of graph.now.nodes numbers.old line.now) }
-    ensures written { result ≡ Err Ending.WriteFault
-        → Rose (K.faults sink.old) (K.faults sink.new) }
-    ensures counted { K.faults sink.old ≤ K.faults sink.new }
-    ensures asks { steps.new.1 ≡ steps.old.1 }
-{
-    let Some(request) = asked(graph, numbers, line)? else {
-        return Ok(());
-    };
-    remember(numbers, request.no)?;
-    answer_ride(alloc, graph, fleet, request, sink, steps)
-}
-
-/// The ride that a line asks for, or none where it says nothing.
-fn asked(graph: &Graph, numbers: &BTreeSet<u64>, line: &Line) -> Result<Option<Request>, Ending>
-    ensures asked { result ≡ asked_of graph.now.nodes numbers.now line.now }
+    requires ready { IsReady graph.now (board_of board.old) }
+    ensures answered { LineAnswer graph.now (board_of board.old) line.now.number
+        (stream_line_of line.now.bytes) result (board_of board.new) text.new.items }
     ensures unread { result ≡ Err Ending.ReadFault → ⊥ }
     ensures unwritten { result ≡ Err Ending.WriteFault → ⊥ }
-    ensures accepted { IfOk result
-        (λ o. IfSome o (λ r. accepted_by graph.now.nodes numbers.now r ≡ true)) }
-    ensures moment { AsksInTime result }
 {
+    text.clear();
     match stream_line(line) {
-        Ok(StreamLine::Ride(request)) => {
-            if is_accepted(graph, numbers, &request) {
-                Ok(Some(request))
-            } else {
-                Err(Ending::NotYet)
-            }
-        }
-        Ok(StreamLine::Move(_) | StreamLine::Cancel(_)) => Err(Ending::NotYet),
-        Ok(StreamLine::Nothing) => Ok(None),
-        Err(_) => Err(Ending::StreamText { line: line.number }),
+        Ok(StreamLine::Ride(request)) => answer_ride(alloc, graph, board, &request, text, steps)?,
+        Ok(StreamLine::Move(now)) => answer_move(alloc, board, now, text, steps)?,
+        Ok(StreamLine::Cancel(no)) => answer_cancel(alloc, graph, board, no, text, steps)?,
+        Ok(StreamLine::Nothing) => {}
+        Err(_) => return Err(Ending::StreamText { line: line.number }),
     }
-}
-
-/// Whether a ride is between nodes, of at most 16 riders on seats and 16 in wheelchair spaces and of one at least, and of a new
-/// number.
-fn is_accepted(graph: &Graph, numbers: &BTreeSet<u64>, request: &Request) -> bool
-    ensures { result ≡ accepted_by graph.now.nodes numbers.now request.now }
-{
-    graph.has(request.pickup)
-        && graph.has(request.dropoff)
-        && request.riders <= 16
-        && request.spaces <= 16
-        && (1 <= request.riders || 1 <= request.spaces)
-        && !numbers.contains(&request.no.0)
-}
-
-/// Adds a number to those that were accepted.
-fn remember(numbers: &mut BTreeSet<u64>, number: RequestNo) -> Result<(), Ending>
-    ensures added { IsOk result → AreMore numbers.old number.0 numbers.new }
-    ensures wanted { OnErr result (result ≡ Err Ending.NoMemory) }
-{
-    match numbers.insert(number.0) {
-        Ok(_) => Ok(()),
-        Err(_) => Err(Ending::NoMemory),
-    }
-}
-
-/// Answers one ride, and writes the lines of its two entries.
-fn answer_ride<K: Sink, L>(
-    alloc: Global,
-    graph: &Graph,
-    fleet: &mut Fleet,
-    request: Request,
-    sink: &mut K,
-    steps: &mut Steps<L>,
-) -> Result<(), Ending>
-    requires pickup { IsNode graph.now request.pickup }
-    requires dropoff { IsNode graph.now request.dropoff }
-    requires moment { request.moment ≤ latest_moment }
-    requires riders { request.riders ≤ most_riders }
-    requires spaces { request.spaces ≤ most_riders }
-    requires version { fleet.old.version < 2 ^ 61 }
-    requires walks { AllHaveLeastWalks graph.now fleet.old }
-    ensures answered { RideAnswer graph.now fleet.old request result fleet.new
-        (K.taken sink.old) (K.taken sink.new) }
-    ensures unread { result ≡ Err Ending.ReadFault → ⊥ }
-    ensures written { result ≡ Err Ending.WriteFault
-        → Rose (K.faults sink.old) (K.faults sink.new) }
-    ensures counted { K.faults sink.old ≤ K.faults sink.new }
-    ensures asks { steps.new.1 ≡ steps.old.1 }
-{
-    fleet.count_entry();
-    let decision = decide(alloc, graph, fleet, &request, steps)?;
-    let mut text = Vec::new(alloc);
-    render(
-        alloc,
-        &Entry::Submit(request, Submitted::Accepted),
-        &mut text,
-    )?;
-    render(alloc, &Entry::Commit(request.no, decision), &mut text)?;
-    write_whole(sink, text.as_slice())?;
     Ok(())
 }

@@ -1,5 +1,6 @@
-ghost use Rattle.std.specs.Prelude.{◌≡◌, IfOk, Some, true};
+ghost use Rattle.std.specs.Prelude.{◌≡◌, ◌≢◌, Err, IfOk, Some, true};
 ghost use Rattle.command_words.specs.Commands.{Walk as WalkForm};
+ghost use Rattle.ride_base.specs.Outside.{CountStays};
 ghost use Rattle.dispatch_top.specs.Behaving.{Behaves};
 ghost use Rattle.dispatch_top.specs.Calls.{seen_call};
 ghost use Rattle.dispatch_top.specs.Endings.{ended_as};
@@ -30,7 +31,10 @@ pub(crate) fn print_walk<S: Shelf, K: Sink, L>(
     ensures behaves { Behaves (Some (WalkForm name.now from to)) (ended_as result)
         (seen_call S.held S.left S.IsBegun S.names S.IsSure S.faults K.taken K.faults
         shelf.old shelf.new sink.old sink.new) }
-    ensures asks { steps.new.1 ≡ steps.old.1 }
+    ensures quiet { S.IsQuiet → result ≢ Err Ending.ReadFault
+        → CountStays S.faults shelf.old shelf.new }
+    ensures kept { K.IsQuiet → result ≢ Err Ending.WriteFault
+        → CountStays K.faults sink.old sink.new }
 {
     let graph = read_graph_of(alloc, name, shelf)?;
     let walk = walk_between(alloc, &graph, NodeNo(from), NodeNo(to), steps)?;
@@ -48,7 +52,6 @@ fn walk_between<L>(
     steps: &mut Steps<L>,
 ) -> Result<Option<Walk>, NoMemory>
     ensures found { IfOk result (IsFound graph.now from to) }
-    ensures asks { steps.new.1 ≡ steps.old.1 }
 {
     if !graph.has(from) {
         return Ok(None);

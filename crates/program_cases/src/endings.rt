@@ -196,36 +196,6 @@ fn a_bad_line_ends_the_stream(rt: HostRuntime) -> Result<(), Fail> {
     )
 }
 
-#[test]
-fn a_line_may_not_be_answered_yet(rt: HostRuntime) -> Result<(), Fail> {
-    stream_ends(&rt, rt.alloc(), b"r 1 2 4 0 1\nt 5\nq\n", Status::NotYet)?;
-    stream_ends(
-        &rt,
-        rt.alloc(),
-        b"r 1 2 4 0 1\nr 1 2 3 0 1\nq\n",
-        Status::NotYet,
-    )?;
-    stream_ends(
-        &rt,
-        rt.alloc(),
-        b"r 1 2 4 0 1\nr 2 9 3 0 1\n",
-        Status::NotYet,
-    )?;
-    stream_ends(
-        &rt,
-        rt.alloc(),
-        b"r 1 2 4 0 1\nr 2 2 3 0 17\n",
-        Status::NotYet,
-    )?;
-    stream_ends(
-        &rt,
-        rt.alloc(),
-        b"r 1 2 4 0 1\nr 2 2 4 0 0 0\n",
-        Status::NotYet,
-    )?;
-    stream_ends(&rt, rt.alloc(), b"r 1 2 4 0 1\ny 1\n", Status::NotYet)
-}
-
 /// A line of so many bytes, behind a first ride.
 fn with_long_line(alloc: Global, bytes: usize) -> Result<Vec<u8>, Fail>
     requires { bytes < 100000 }

@@ -2,7 +2,11 @@
 #![tactic(auto)]
 
 #[cfg(test)]
+mod clock;
+#[cfg(test)]
 mod endings;
+#[cfg(test)]
+mod events;
 #[cfg(test)]
 mod lines;
 #[cfg(test)]

@@ -1,4 +1,4 @@
-use Rattle.std.proofs.Common.{None, false, refl, subst}
+use Rattle.std.proofs.Common.{None, false, refl, ap, ◌∙◌, subst}
 use Rattle.std.specs.Prelude.{map, string_bytes}
 use Rattle.command_words.specs.Commands.{Walk}
 use Rattle.dispatch_top.specs.declared.words.Task.{Task}
@@ -26,3 +26,15 @@ returns-in-Ok-Later-clause-complete g c = complete_later (run_asks (map string_b
 
 pub returns-in-Err-clause-ends : goal.returns-in-Err-clause-ends
 returns-in-Err-clause-ends g c = ends_unread (seen_call g.S.Shelf.held g.S.Shelf.left g.S.Shelf.IsBegun g.S.Shelf.names g.S.Shelf.IsSure g.S.Shelf.faults g.K.Sink.taken g.K.Sink.faults c.args.shelf.now c.args.shelf.now c.args.sink.now c.args.sink.now) refl refl (run_asks (map string_bytes c.args.words.now))
+
+pub returns-in-Ok-Run-clause-quiet : goal.returns-in-Ok-Run-clause-quiet
+returns-in-Ok-Run-clause-quiet g c = λ q n. c.answer_run.ensures.quiet q (λ e. n (c.status.ensures ∙ ap ended_as e))
+
+pub returns-in-Ok-Run-clause-kept : goal.returns-in-Ok-Run-clause-kept
+returns-in-Ok-Run-clause-kept g c = λ q n. c.answer_run.ensures.kept q (λ e. n (c.status.ensures ∙ ap ended_as e))
+
+pub returns-in-Ok-Walk-clause-quiet : goal.returns-in-Ok-Walk-clause-quiet
+returns-in-Ok-Walk-clause-quiet g c = λ q n. c.print_walk.ensures.quiet q (λ e. n (c.status-in-Ok-Walk.ensures ∙ ap ended_as e))
+
+pub returns-in-Ok-Walk-clause-kept : goal.returns-in-Ok-Walk-clause-kept
+returns-in-Ok-Walk-clause-kept g c = λ q n. c.print_walk.ensures.kept q (λ e. n (c.status-in-Ok-Walk.ensures ∙ ap ended_as e))

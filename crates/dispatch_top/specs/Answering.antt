@@ -1,0 +1,49 @@
+use Rattle.std.specs.Prelude.{◌≡◌, ℕ, ◌+◌, ◌<◌, ◌≤◌, ◌^◌, ◌++◌, List, Option, Some, None}
+use Rattle.ride_base.specs.declared.numbers.RequestNo.{RequestNo}
+use Rattle.road_graph.specs.Roads.{Roads}
+use Rattle.stop_schedule.specs.declared.request.Request.{Request}
+use Rattle.stop_schedule.specs.Fleets.{IsGoodFleet}
+use Rattle.insertion_cost.specs.declared.decision.Decision.{Decision}
+use Rattle.board_core.specs.declared.entry.Entry.{Entry}
+use Rattle.board_core.specs.declared.entry.Entry.TheVariants.{Commit}
+use Rattle.board_core.specs.declared.waiting.Waiting.{Waiting}
+use Rattle.board_core.specs.Boards.{Board}
+use Rattle.board_core.specs.Histories.{Legal, Event, events_in, AreAnsweredAtOnce}
+use Rattle.board_core.specs.Laws.{HasEarlyMoves}
+use Rattle.board_core.specs.Steps.{Step}
+use Rattle.journal_text.specs.Groups.{group, journal_of}
+
+-- What is answered on a board over a graph.
+
+-- a request that waits, and that no desk holds
+abbrev pub as_waiting : Request → Waiting
+as_waiting r = record { request = r; holder = None }
+
+-- the board is ready for an event over a graph: it has its nodes, its fleet is good over it, and it is far from its last version
+pub record IsReady (g : Roads) (b : Board) : Type 0 where
+  pub nodes : b.nodes ≡ g.nodes
+  pub good : IsGoodFleet g b.fleet
+  pub early : b.fleet.version < 2 ^ 61
+
+-- The request of a number got its answer, and the lines of that entry came behind a text.
+pub record IsCommitted (g : Roads) (old : Board) (number : RequestNo) (new : Board) (text text' : List ℕ) : Type 0 where
+  pub decision : Decision
+  pub step : Step g old (Commit number decision) new
+  pub rendered : text' ≡ text ++ group (Commit number decision)
+
+-- These events were answered: their entries are lawful one after another from the old board on and leave the new one, each request that
+-- was accepted has its answer at once, and the text is the lines of the entries.
+pub record AreAnswered (g : Roads) (old : Board) (events : List Event) (new : Board) (text : List ℕ) : Type 0 where
+  pub entries : List Entry
+  pub legal : Legal g old entries new
+  pub asked : events_in entries ≡ events
+  pub at_once : AreAnsweredAtOnce entries
+  pub early : HasEarlyMoves entries
+  pub rendered : text ≡ journal_of entries
+  pub nodes : new.nodes ≡ old.nodes
+  pub few : new.fleet.version ≤ old.fleet.version + 2
+
+-- the answer that an entry tells
+abbrev pub answer_told : Entry → Option Decision
+answer_told (Commit number decision) = Some decision
+answer_told entry = None
