@@ -44,8 +44,6 @@ class DayTest(FolderTest):
         """Runs the five commands over a map."""
         options = self.prepare(source)
         told = vaugrenis(self.folder, "run", "city.gr", "fleet.csv", "day.txt", *options)
-        if (told.returncode, told.stderr.strip()) in ((1, "not yet"), (4, "fleet row 0")):
-            self.skipTest("this program doesn't answer spaces or lines that move the clock yet")
         self.assertEqual(told.returncode, 0, told.stderr)
         self.put("day.journal", told.stdout)
         self.put("leaflet.js", "")

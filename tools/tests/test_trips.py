@@ -135,8 +135,6 @@ class TripsTest(FolderTest):
         self.put("fleet.csv", "vehicle,start,seats,from,until\n1,1,4,0,1000000\n")
         self.stream("0,0.0009,0,0.0027,0,1", "100,0.0009,0,0.0027,0,1")
         told = vaugrenis(self.folder, "run", "line.gr", "fleet.csv", "day.txt", *OPTIONS.split())
-        if told.returncode == 1:
-            self.skipTest("this program doesn't answer lines that move the clock yet")
         self.assertEqual(told.returncode, 0, told.stderr)
         self.assertEqual(told.stdout.count("\ns "), 4)
 
