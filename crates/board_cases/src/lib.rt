@@ -1,5 +1,21 @@
-//! Tests of the board's layers: the lines of a journal.
+//! Tests of the board's layers: its calls, rides that cancel, looks at a fleet, and the lines of a journal.
 #![tactic(auto)]
 
 #[cfg(test)]
+mod boards;
+#[cfg(test)]
+mod cancels;
+#[cfg(test)]
+mod cities;
+#[cfg(test)]
+mod fleets;
+#[cfg(test)]
 mod journal;
+#[cfg(test)]
+mod looks;
+#[cfg(test)]
+mod rides;
+#[cfg(test)]
+mod twins;
+#[cfg(test)]
+mod walkers;

@@ -1,0 +1,3 @@
+mod FirstVehicles
+mod Held
+mod Played
