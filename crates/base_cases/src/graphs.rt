@@ -117,11 +117,16 @@ fn length_of(graph: &Graph, nodes: &[NodeNo], steps: &mut Steps<()>) -> Option<u
     graph.walk_length(nodes, steps)
 }
 
-#[test]
-fn a_city_is_built(rt: HostRuntime) -> Result<(), Fail> {
-    let graph = line(rt.alloc())?;
+fn check_city(rt: &impl Abort, graph: &Graph) {
     assert_eq!(rt; graph.nodes(), 4);
     assert_eq!(rt; graph.roads(), 6);
+    assert!(rt; graph.has(ONE) && graph.has(FOUR));
+    assert!(rt; !graph.has(NodeNo(0)) && !graph.has(NodeNo(5)));
+}
+
+#[test]
+fn a_city_is_built(rt: HostRuntime) -> Result<(), Fail> {
+    check_city(&rt, &line(rt.alloc())?);
     Ok(())
 }
 

@@ -1,6 +1,8 @@
-//! Tests of the lower layers: texts, roads, searches, versions of lists, schedules, leeways, and prices.
+//! Tests of the lower layers: texts, roads, searches, versions of lists, schedules, what is left of them, leeways, and prices.
 #![tactic(auto)]
 
+#[cfg(test)]
+mod advances;
 #[cfg(test)]
 mod cities;
 #[cfg(test)]
@@ -15,6 +17,8 @@ mod pricers;
 mod prices;
 #[cfg(test)]
 mod reckonings;
+#[cfg(test)]
+mod removals;
 #[cfg(test)]
 mod schedules;
 #[cfg(test)]

@@ -13,7 +13,10 @@ use stop_schedule::{Front, Insertion, NewWalks, Promise, Request, Schedule, Vehi
 /// A vehicle at node 1 with no stop yet, and with one wheelchair space.
 pub fn opened(alloc: Global, seats: u32, from: u64) -> Schedule
     requires { from ≤ latest_moment }
-    ensures { result.stops ≡ [] }
+    ensures none { result.stops ≡ [] }
+    ensures seats { result.seats ≡ seats }
+    ensures spaces { result.spaces ≡ 1 }
+    ensures until { result.until ≡ 1000 }
 {
     let vehicle = Vehicle {
         no: VehicleNo(1),

@@ -17,7 +17,12 @@ use stop_schedule::{Front, Insertion, Params, Request, Schedule};
 
 /// The lengths into and out of the pickup where both stops stand side by side at the end.
 fn at_the_end(before_pickup: u64, after_pickup: u64) -> Spans
-    ensures { result ≡ record { before_pickup = before_pickup; after_pickup = after_pickup; before_dropoff = None; after_dropoff = None } }
+    ensures { result ≡ record {
+      before_pickup = before_pickup;
+      after_pickup = after_pickup;
+      before_dropoff = None;
+      after_dropoff = None;
+    } }
 {
     Spans {
         before_pickup,
@@ -29,7 +34,12 @@ fn at_the_end(before_pickup: u64, after_pickup: u64) -> Spans
 
 /// The same where an older stop follows so far behind.
 fn before_another(before_pickup: u64, after_pickup: u64, after_dropoff: u64) -> Spans
-    ensures { result ≡ record { before_pickup = before_pickup; after_pickup = after_pickup; before_dropoff = None; after_dropoff = Some after_dropoff } }
+    ensures { result ≡ record {
+      before_pickup = before_pickup;
+      after_pickup = after_pickup;
+      before_dropoff = None;
+      after_dropoff = Some after_dropoff;
+    } }
 {
     Spans {
         before_pickup,
@@ -41,7 +51,12 @@ fn before_another(before_pickup: u64, after_pickup: u64, after_dropoff: u64) -> 
 
 /// The same where older stops stand between the two, and none behind.
 fn around_others(before_pickup: u64, after_pickup: u64, before_dropoff: u64) -> Spans
-    ensures { result ≡ record { before_pickup = before_pickup; after_pickup = after_pickup; before_dropoff = Some before_dropoff; after_dropoff = None } }
+    ensures { result ≡ record {
+      before_pickup = before_pickup;
+      after_pickup = after_pickup;
+      before_dropoff = Some before_dropoff;
+      after_dropoff = None;
+    } }
 {
     Spans {
         before_pickup,
