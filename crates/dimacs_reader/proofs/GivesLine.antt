@@ -4,7 +4,7 @@ use Rattle.ride_base.proofs.LineLaws.{after_last_line}
 use Rattle.ride_base.specs.Pieces.{Piece, Whole, pieces, after_line, is_ended, is_line_end, largest_text}
 use Rattle.ride_base.specs.Prefixes.{AreGiven, IsReadWithLines}
 use Rattle.ride_base.specs.Reader.{Reader}
-use Rattle.ride_base.specs.Reading.{Counts, Tells, unread, line_read, over_after}
+use Rattle.ride_base.specs.Reading.{Counts, TellsLine, unread, line_read, over_after}
 use Rattle.ride_base.specs.Told.{ahead}
 use Rattle.ride_base.specs.declared.lines.Line.{Line}
 use Rattle.ride_base.specs.declared.lines.LineFault.{LineFault}
@@ -37,14 +37,14 @@ nothing_ahead : (given : ℕ) (reader : Reader) (left : Option (List ℕ)) (line
 nothing_ahead given reader None line over = refl
 nothing_ahead given reader (Some l) line over = rw over (refl, refl)
 
-end_ahead : (given : ℕ) (old new : Reader) (left left' : Option (List ℕ)) (line : Line) → Tells old.room (unread old left) (Ok None) new.room (unread new left') → old.over ≡ false → new.over ≡ true
+end_ahead : (given : ℕ) (old new : Reader) (left left' : Option (List ℕ)) (line : Line) → TellsLine old.room (unread old left) (Ok None) new.room (unread new left') → old.over ≡ false → new.over ≡ true
     → GivesLine given (ahead old left) (Ok false) line (ahead new left')
 end_ahead given old new None None line tells still over = refl
 end_ahead given old new None (Some l') line tells still over = cc
 end_ahead given old new (Some l) None line tells still over = let f = tells.1 in cc
 end_ahead given old new (Some l) (Some l') line tells still over = rw (still, over) (ap (pieces old.room) tells.0, refl)
 
-line_ahead : (given : ℕ) (old new : Reader) (left left' : Option (List ℕ)) (line : Line) → Tells old.room (unread old left) (Ok (Some line)) new.room (unread new left') → old.over ≡ false → new.over ≡ not line.ended
+line_ahead : (given : ℕ) (old new : Reader) (left left' : Option (List ℕ)) (line : Line) → TellsLine old.room (unread old left) (Ok (Some line)) new.room (unread new left') → old.over ≡ false → new.over ≡ not line.ended
     → GivesLine given (ahead old left) (Ok true) line (ahead new left')
 line_ahead given old new None None line tells still over = refl
 line_ahead given old new None (Some l') line tells still over = cc
@@ -58,7 +58,7 @@ line_ahead given old new (Some l) (Some l') line tells still over = rw still (te
     on true e = ap (pieces new.room) (sym is)
     on false e = ap (pieces new.room) (after_unended (old.pending ++ l) (sym tells.2 ∙ e))
 
-refused_ahead : (given : ℕ) (old new : Reader) (left left' : Option (List ℕ)) (line : Line) (why : LineFault) → Tells old.room (unread old left) (Err why) new.room (unread new left') → old.over ≡ false
+refused_ahead : (given : ℕ) (old new : Reader) (left left' : Option (List ℕ)) (line : Line) (why : LineFault) → TellsLine old.room (unread old left) (Err why) new.room (unread new left') → old.over ≡ false
     → GivesLine given (ahead old left) (Err (fault_at (given + 1) why)) line (ahead new left')
 refused_ahead given old new None left' line why tells still = tt
 refused_ahead given old new (Some l) left' line LineFaultOfShelf tells still = tt
@@ -72,12 +72,12 @@ numbered line (Ok read) = Ok read
 numbered line (Err why) = Err (fault_at line why)
 
 pub gives : (given : ℕ) (old new : Reader) (left left' : Option (List ℕ)) (answer : Result Bool LineFault) (line : Line)
-    → (old.over ≡ false → Tells old.room (unread old left) (line_read answer line) new.room (unread new left')) → new.over ≡ over_after old.over (line_read answer line)
+    → (old.over ≡ false → TellsLine old.room (unread old left) (line_read answer line) new.room (unread new left')) → new.over ≡ over_after old.over (line_read answer line)
     → (old.over ≡ true → (answer ≡ Ok false) × (new ≡ old) × (left' ≡ left))
     → GivesLine given (ahead old left) (numbered (given + 1) answer) line (ahead new left')
 gives given old new left left' answer line tells over ended = on old.over refl
   where
-    still : (answer : Result Bool LineFault) → old.over ≡ false → Tells old.room (unread old left) (line_read answer line) new.room (unread new left') → new.over ≡ over_after old.over (line_read answer line)
+    still : (answer : Result Bool LineFault) → old.over ≡ false → TellsLine old.room (unread old left) (line_read answer line) new.room (unread new left') → new.over ≡ over_after old.over (line_read answer line)
         → GivesLine given (ahead old left) (numbered (given + 1) answer) line (ahead new left')
     still (Ok false) e t o = end_ahead given old new left left' line t e o
     still (Ok true) e t o = line_ahead given old new left left' line t e o

@@ -1,6 +1,7 @@
 use Rattle.std.specs.Prelude.{◌≡◌, ℕ, ℤ, ◌+◌, ◌<◌, ◌^◌, Bool, true, false, cond, List, [], ◌++◌, length, get_or, Option, Result, Ok, Err, IfErr}
 use Rattle.std.specs.Option.{option_map, option_to_list}
 use Rattle.ride_base.specs.Fields.{capped}
+use Rattle.ride_base.specs.Outside.{ShelfState}
 use Rattle.ride_base.specs.Reader.{Reader}
 use Rattle.ride_base.specs.Told.{WhereTold, ahead}
 use Rattle.ride_base.specs.declared.lines.Line.{Line}
@@ -17,8 +18,7 @@ use Rattle.dimacs_reader.specs.Places.{Placed, AreCoordinates, places_of, openin
 use Rattle.dimacs_reader.specs.Reading.{GivesLine, IsPlaceTable, by_answer, by_value, graph_ahead, roads_ahead, places_ahead, placed_ahead, placed_by, placed_and, read_coordinate}
 use Rattle.dimacs_reader.specs.Refusals.{IsRefusal, IsUndecided, IsReadFrom, IsReadBehind}
 
--- What the calls promise. `left` tells what is left on a shelf, `old` and `shelf` are the reader and the shelf before a call, `new` and
--- `shelf'` after it.
+-- What the calls promise. `old` and `shelf` are the reader and what is seen of the shelf before a call, `new` and `shelf'` after it.
 
 -- Calls on the text that is begun.
 
@@ -35,8 +35,8 @@ abbrev pub RefusesText : {X Y : Type 0} → (says : List ℕ → Result Y GraphF
 RefusesText says text answer = IfErr answer (λ e. IsRefusal e → WhereTold text (λ told. says told ≡ Err e))
 
 -- what was read doesn't say by which line the text is refused
-abbrev pub LeavesUndecided : {S X : Type 0} → (says : List ℕ → Result X GraphFault) → (left : S → Option (List ℕ)) → S → S → Type 0
-LeavesUndecided says left shelf shelf' = WhereTold (left shelf) (λ text. IsUndecided (says text) text (left shelf'))
+abbrev pub LeavesUndecided : {X : Type 0} → (says : List ℕ → Result X GraphFault) → ShelfState → ShelfState → Type 0
+LeavesUndecided says shelf shelf' = WhereTold shelf.left (λ text. IsUndecided (says text) text shelf'.left)
 
 -- Calls on a reader. What they say is about what is ahead of it.
 
@@ -49,33 +49,33 @@ abbrev pub Refuses : {X Y : Type 0} → Option (Result Y GraphFault) → Result 
 Refuses said answer = IfErr answer (λ e. IsRefusal e → WhereTold said (λ s. s ≡ Err e))
 
 -- the answer for the next line
-abbrev pub GivesNext : {S : Type 0} → (left : S → Option (List ℕ)) → Reader → S → Result Bool GraphFault → Line → Reader → S → Type 0
-GivesNext left old shelf answer line new shelf' = GivesLine old.given (ahead old (left shelf)) answer line (ahead new (left shelf'))
+abbrev pub GivesNext : Reader → ShelfState → Result Bool GraphFault → Line → Reader → ShelfState → Type 0
+GivesNext old shelf answer line new shelf' = GivesLine old.given (ahead old shelf.left) answer line (ahead new shelf'.left)
 
 -- of whichever text the reader gave exactly the lines that it counted, it still did so
-abbrev pub StaysReadFrom : {S : Type 0} → (left : S → Option (List ℕ)) → Reader → S → Reader → S → Type 0
-StaysReadFrom left old shelf new shelf' = (text : List ℕ) → IsReadFrom text old (left shelf) → IsReadFrom text new (left shelf')
+abbrev pub StaysReadFrom : Reader → ShelfState → Reader → ShelfState → Type 0
+StaysReadFrom old shelf new shelf' = (text : List ℕ) → IsReadFrom text old shelf.left → IsReadFrom text new shelf'.left
 
 -- of whichever text the reader gave exactly the lines that it counted, no other line is ended among what was read
-abbrev pub HasReadNoMore : {S : Type 0} → (left : S → Option (List ℕ)) → Reader → S → S → Type 0
-HasReadNoMore left old shelf shelf' = (text : List ℕ) → IsReadFrom text old (left shelf) → IsReadBehind text (left shelf') old.given
+abbrev pub HasReadNoMore : Reader → ShelfState → ShelfState → Type 0
+HasReadNoMore old shelf shelf' = (text : List ℕ) → IsReadFrom text old shelf.left → IsReadBehind text shelf'.left old.given
 
 -- of whichever text the reader gave exactly the lines that it counted, what was read doesn't say by which line it is refused
-abbrev pub StaysUndecided : {S X : Type 0} → (says : Reader → Option (List ℕ) → Option (Result X GraphFault)) → (left : S → Option (List ℕ)) → Reader → S → S → Type 0
-StaysUndecided says left old shelf shelf' =
-    (text : List ℕ) → IsReadFrom text old (left shelf) → WhereTold (says old (left shelf)) (λ said. IsUndecided said text (left shelf'))
+abbrev pub StaysUndecided : {X : Type 0} → (says : Reader → Option (List ℕ) → Option (Result X GraphFault)) → Reader → ShelfState → ShelfState → Type 0
+StaysUndecided says old shelf shelf' =
+    (text : List ℕ) → IsReadFrom text old shelf.left → WhereTold (says old shelf.left) (λ said. IsUndecided said text shelf'.left)
 
 -- the roads ahead, of which the problem line said so many
 abbrev pub said_roads : Said → Reader → Option (List ℕ) → Option (Result (List Road) GraphFault)
 said_roads said reader left = roads_ahead said.nodes said.roads 0 reader left
 
 -- what was ahead as a graph is what is ahead as its roads
-abbrev pub IsProblemAhead : {S : Type 0} → (left : S → Option (List ℕ)) → Reader → S → Reader → S → Said → Type 0
-IsProblemAhead left old shelf new shelf' said = graph_ahead old (left shelf) ≡ option_map (over_nodes said.nodes) (said_roads said new (left shelf'))
+abbrev pub IsProblemAhead : Reader → ShelfState → Reader → ShelfState → Said → Type 0
+IsProblemAhead old shelf new shelf' said = graph_ahead old shelf.left ≡ option_map (over_nodes said.nodes) (said_roads said new shelf'.left)
 
 -- what was ahead as places is what is ahead as places behind the header
-abbrev pub IsHeaderAhead : {S : Type 0} → (nodes : ℕ) → (left : S → Option (List ℕ)) → Reader → S → Reader → S → Type 0
-IsHeaderAhead nodes left old shelf new shelf' = places_ahead nodes old (left shelf) ≡ placed_ahead nodes [] new (left shelf')
+abbrev pub IsHeaderAhead : (nodes : ℕ) → Reader → ShelfState → Reader → ShelfState → Type 0
+IsHeaderAhead nodes old shelf new shelf' = places_ahead nodes old shelf.left ≡ placed_ahead nodes [] new shelf'.left
 
 -- the coordinates are those of the places that are said, where they are told
 abbrev pub AreSaidPlaces : (nodes : ℕ) → Option (Result (List Placed) GraphFault) → List (ℤ × ℤ) → Type 0

@@ -29,17 +29,18 @@ struct Said {
 /// each of a weight of at most 4,294,967,295. A line may have 65,536 bytes before its end, and the text 2^30. After an error the text
 /// stays begun, and the shelf stands behind what was read of it, which may be more than the line that is told.
 pub fn read_graph<S: Shelf>(alloc: Global, shelf: &mut S) -> Result<Graph, GraphFault>
-    requires { S.IsBegun shelf.old }
-    ensures graph { IfOk result (IsGraphOf (S.left shelf.old)) }
-    ensures refused { RefusesText graph_of (S.left shelf.old) result }
+    requires { (S.seen shelf.old).begun ≡ true }
+    ensures graph { IfOk result (IsGraphOf (S.seen shelf.old).left) }
+    ensures refused { RefusesText graph_of (S.seen shelf.old).left result }
     ensures unread { result ≡ Err GraphFault.Fault
-        → LeavesUndecided graph_of S.left shelf.old shelf.new }
+        → LeavesUndecided graph_of (S.seen shelf.old) (S.seen shelf.new) }
     ensures is_graph { IfOk result IsGraph }
-    ensures fault { result ≡ Err GraphFault.Fault → CountRose S.faults shelf.old shelf.new }
-    ensures quiet { S.IsQuiet → result ≢ Err GraphFault.Fault
-        → CountStays S.faults shelf.old shelf.new }
-    ensures surely { S.IsSure shelf.old → result ≡ Err GraphFault.Fault → ⊥ }
-    ensures shelf { OnlyRead S.IsBegun S.held S.names S.IsSure S.faults shelf.old shelf.new }
+    ensures fault { result ≡ Err GraphFault.Fault
+        → CountRose (S.seen shelf.old) (S.seen shelf.new) }
+    ensures quiet { (S.seen shelf.old).quiet ≡ true → result ≢ Err GraphFault.Fault
+        → CountStays (S.seen shelf.old) (S.seen shelf.new) }
+    ensures surely { (S.seen shelf.old).sure ≡ true → result ≡ Err GraphFault.Fault → ⊥ }
+    ensures shelf { OnlyRead (S.seen shelf.old) (S.seen shelf.new) }
 {
     let mut lines = CountedLines::new(alloc);
     let mut line = Line::new(alloc);
@@ -58,21 +59,24 @@ fn read_problem<S: Shelf>(
     shelf: &mut S,
     line: &mut Line,
 ) -> Result<Said, GraphFault>
-    requires begun { S.IsBegun shelf.old }
+    requires begun { (S.seen shelf.old).begun ≡ true }
     requires unstopped { lines.old.stopped ≡ None }
-    ensures said { IfOk result (IsProblemAhead S.left lines.old shelf.old lines.new shelf.new) }
+    ensures said { IfOk result
+        (IsProblemAhead lines.old (S.seen shelf.old) lines.new (S.seen shelf.new)) }
     ensures few_nodes { IfOk result (λ said. said.nodes ≤ most_nodes) }
     ensures few_roads { IfOk result (λ said. said.roads ≤ most_roads) }
-    ensures refused { Refuses (graph_ahead lines.old (S.left shelf.old)) result }
-    ensures goes { IsOk result → StaysReadFrom S.left lines.old shelf.old lines.new shelf.new }
+    ensures refused { Refuses (graph_ahead lines.old (S.seen shelf.old).left) result }
+    ensures goes { IsOk result
+        → StaysReadFrom lines.old (S.seen shelf.old) lines.new (S.seen shelf.new) }
     ensures unread { result ≡ Err GraphFault.Fault
-        → StaysUndecided graph_ahead S.left lines.old shelf.old shelf.new }
+        → StaysUndecided graph_ahead lines.old (S.seen shelf.old) (S.seen shelf.new) }
     ensures unstopped { IsOk result → lines.new.stopped ≡ None }
-    ensures fault { result ≡ Err GraphFault.Fault → CountRose S.faults shelf.old shelf.new }
-    ensures quiet { S.IsQuiet → result ≢ Err GraphFault.Fault
-        → CountStays S.faults shelf.old shelf.new }
-    ensures surely { S.IsSure shelf.old → result ≡ Err GraphFault.Fault → ⊥ }
-    ensures shelf { OnlyRead S.IsBegun S.held S.names S.IsSure S.faults shelf.old shelf.new }
+    ensures fault { result ≡ Err GraphFault.Fault
+        → CountRose (S.seen shelf.old) (S.seen shelf.new) }
+    ensures quiet { (S.seen shelf.old).quiet ≡ true → result ≢ Err GraphFault.Fault
+        → CountStays (S.seen shelf.old) (S.seen shelf.new) }
+    ensures surely { (S.seen shelf.old).sure ≡ true → result ≡ Err GraphFault.Fault → ⊥ }
+    ensures shelf { OnlyRead (S.seen shelf.old) (S.seen shelf.new) }
 {
     while lines.read_line(shelf, line)? {
         if let Some(said) = problem_of(line)? {
@@ -114,20 +118,21 @@ fn read_roads<S: Shelf>(
     line: &mut Line,
     said: Said,
 ) -> Result<Items<Road>, GraphFault>
-    requires begun { S.IsBegun shelf.old }
+    requires begun { (S.seen shelf.old).begun ≡ true }
     requires unstopped { lines.old.stopped ≡ None }
     requires few_nodes { said.nodes ≤ most_nodes }
     requires few_roads { said.roads ≤ most_roads }
-    ensures roads { IfOk result (IsSaid (said_roads said lines.old (S.left shelf.old))) }
+    ensures roads { IfOk result (IsSaid (said_roads said lines.old (S.seen shelf.old).left)) }
     ensures sound { IfOk result (λ roads. fault_in said.nodes roads ≡ None) }
-    ensures refused { Refuses (said_roads said lines.old (S.left shelf.old)) result }
+    ensures refused { Refuses (said_roads said lines.old (S.seen shelf.old).left) result }
     ensures unread { result ≡ Err GraphFault.Fault
-        → StaysUndecided (said_roads said) S.left lines.old shelf.old shelf.new }
-    ensures fault { result ≡ Err GraphFault.Fault → CountRose S.faults shelf.old shelf.new }
-    ensures quiet { S.IsQuiet → result ≢ Err GraphFault.Fault
-        → CountStays S.faults shelf.old shelf.new }
-    ensures surely { S.IsSure shelf.old → result ≡ Err GraphFault.Fault → ⊥ }
-    ensures shelf { OnlyRead S.IsBegun S.held S.names S.IsSure S.faults shelf.old shelf.new }
+        → StaysUndecided (said_roads said) lines.old (S.seen shelf.old) (S.seen shelf.new) }
+    ensures fault { result ≡ Err GraphFault.Fault
+        → CountRose (S.seen shelf.old) (S.seen shelf.new) }
+    ensures quiet { (S.seen shelf.old).quiet ≡ true → result ≢ Err GraphFault.Fault
+        → CountStays (S.seen shelf.old) (S.seen shelf.new) }
+    ensures surely { (S.seen shelf.old).sure ≡ true → result ≡ Err GraphFault.Fault → ⊥ }
+    ensures shelf { OnlyRead (S.seen shelf.old) (S.seen shelf.new) }
 {
     let mut roads = Items::new(alloc);
     while lines.read_line(shelf, line)? {

@@ -50,20 +50,22 @@ impl CountedLines {
         shelf: &mut S,
         line: &mut Line,
     ) -> Result<bool, GraphFault>
-        requires begun { S.IsBegun shelf.old }
+        requires begun { (S.seen shelf.old).begun ≡ true }
         requires unstopped { self.old.stopped ≡ None }
-        ensures gives { GivesNext S.left self.old shelf.old result line.new self.new shelf.new }
+        ensures gives { GivesNext self.old (S.seen shelf.old) result line.new
+            self.new (S.seen shelf.new) }
         ensures counts { CountsLine self.old result line.new self.new }
         ensures goes { result ≡ Ok true
-            → StaysReadFrom S.left self.old shelf.old self.new shelf.new }
+            → StaysReadFrom self.old (S.seen shelf.old) self.new (S.seen shelf.new) }
         ensures unread { result ≡ Err GraphFault.Fault
-            → HasReadNoMore S.left self.old shelf.old shelf.new }
+            → HasReadNoMore self.old (S.seen shelf.old) (S.seen shelf.new) }
         ensures unstopped { IsOk result → self.new.stopped ≡ None }
-        ensures fault { result ≡ Err GraphFault.Fault → CountRose S.faults shelf.old shelf.new }
-        ensures quiet { S.IsQuiet → result ≢ Err GraphFault.Fault
-            → CountStays S.faults shelf.old shelf.new }
-        ensures surely { S.IsSure shelf.old → result ≡ Err GraphFault.Fault → ⊥ }
-        ensures shelf { OnlyRead S.IsBegun S.held S.names S.IsSure S.faults shelf.old shelf.new }
+        ensures fault { result ≡ Err GraphFault.Fault
+            → CountRose (S.seen shelf.old) (S.seen shelf.new) }
+        ensures quiet { (S.seen shelf.old).quiet ≡ true → result ≢ Err GraphFault.Fault
+            → CountStays (S.seen shelf.old) (S.seen shelf.new) }
+        ensures surely { (S.seen shelf.old).sure ≡ true → result ≡ Err GraphFault.Fault → ⊥ }
+        ensures shelf { OnlyRead (S.seen shelf.old) (S.seen shelf.new) }
     {
         match self.lines.read_line(shelf, line) {
             Ok(read) => Ok(read),

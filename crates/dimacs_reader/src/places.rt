@@ -40,17 +40,18 @@ pub fn read_places<S: Shelf>(
     shelf: &mut S,
     nodes: u32,
 ) -> Result<Vec<(i64, i64)>, GraphFault>
-    requires { S.IsBegun shelf.old }
-    ensures places { IfOk result (λ v. ArePlacesOf nodes (S.left shelf.old) v.items) }
+    requires { (S.seen shelf.old).begun ≡ true }
+    ensures places { IfOk result (λ v. ArePlacesOf nodes (S.seen shelf.old).left v.items) }
     ensures all { IfOk result (λ v. length v.items ≡ nodes) }
-    ensures refused { RefusesText (places_of nodes) (S.left shelf.old) result }
+    ensures refused { RefusesText (places_of nodes) (S.seen shelf.old).left result }
     ensures unread { result ≡ Err GraphFault.Fault
-        → LeavesUndecided (places_of nodes) S.left shelf.old shelf.new }
-    ensures fault { result ≡ Err GraphFault.Fault → CountRose S.faults shelf.old shelf.new }
-    ensures quiet { S.IsQuiet → result ≢ Err GraphFault.Fault
-        → CountStays S.faults shelf.old shelf.new }
-    ensures surely { S.IsSure shelf.old → result ≡ Err GraphFault.Fault → ⊥ }
-    ensures shelf { OnlyRead S.IsBegun S.held S.names S.IsSure S.faults shelf.old shelf.new }
+        → LeavesUndecided (places_of nodes) (S.seen shelf.old) (S.seen shelf.new) }
+    ensures fault { result ≡ Err GraphFault.Fault
+        → CountRose (S.seen shelf.old) (S.seen shelf.new) }
+    ensures quiet { (S.seen shelf.old).quiet ≡ true → result ≢ Err GraphFault.Fault
+        → CountStays (S.seen shelf.old) (S.seen shelf.new) }
+    ensures surely { (S.seen shelf.old).sure ≡ true → result ≡ Err GraphFault.Fault → ⊥ }
+    ensures shelf { OnlyRead (S.seen shelf.old) (S.seen shelf.new) }
 {
     let mut lines = CountedLines::new(alloc);
     let mut line = Line::new(alloc);
@@ -65,20 +66,22 @@ fn read_header<S: Shelf>(
     line: &mut Line,
     nodes: u32,
 ) -> Result<(), GraphFault>
-    requires begun { S.IsBegun shelf.old }
+    requires begun { (S.seen shelf.old).begun ≡ true }
     requires unstopped { lines.old.stopped ≡ None }
     ensures header { OnOk result
-        (IsHeaderAhead nodes S.left lines.old shelf.old lines.new shelf.new) }
-    ensures refused { Refuses (places_ahead nodes lines.old (S.left shelf.old)) result }
-    ensures goes { IsOk result → StaysReadFrom S.left lines.old shelf.old lines.new shelf.new }
+        (IsHeaderAhead nodes lines.old (S.seen shelf.old) lines.new (S.seen shelf.new)) }
+    ensures refused { Refuses (places_ahead nodes lines.old (S.seen shelf.old).left) result }
+    ensures goes { IsOk result
+        → StaysReadFrom lines.old (S.seen shelf.old) lines.new (S.seen shelf.new) }
     ensures unread { result ≡ Err GraphFault.Fault
-        → StaysUndecided (places_ahead nodes) S.left lines.old shelf.old shelf.new }
+        → StaysUndecided (places_ahead nodes) lines.old (S.seen shelf.old) (S.seen shelf.new) }
     ensures unstopped { IsOk result → lines.new.stopped ≡ None }
-    ensures fault { result ≡ Err GraphFault.Fault → CountRose S.faults shelf.old shelf.new }
-    ensures quiet { S.IsQuiet → result ≢ Err GraphFault.Fault
-        → CountStays S.faults shelf.old shelf.new }
-    ensures surely { S.IsSure shelf.old → result ≡ Err GraphFault.Fault → ⊥ }
-    ensures shelf { OnlyRead S.IsBegun S.held S.names S.IsSure S.faults shelf.old shelf.new }
+    ensures fault { result ≡ Err GraphFault.Fault
+        → CountRose (S.seen shelf.old) (S.seen shelf.new) }
+    ensures quiet { (S.seen shelf.old).quiet ≡ true → result ≢ Err GraphFault.Fault
+        → CountStays (S.seen shelf.old) (S.seen shelf.new) }
+    ensures surely { (S.seen shelf.old).sure ≡ true → result ≡ Err GraphFault.Fault → ⊥ }
+    ensures shelf { OnlyRead (S.seen shelf.old) (S.seen shelf.new) }
 {
     while lines.read_line(shelf, line)? {
         if is_header(line, nodes)? {
@@ -124,19 +127,21 @@ fn read_each<S: Shelf>(
     line: &mut Line,
     nodes: u32,
 ) -> Result<Vec<(i64, i64)>, GraphFault>
-    requires begun { S.IsBegun shelf.old }
+    requires begun { (S.seen shelf.old).begun ≡ true }
     requires unstopped { lines.old.stopped ≡ None }
     ensures places { IfOk result
-        (λ v. AreSaidPlaces nodes (placed_ahead nodes [] lines.old (S.left shelf.old)) v.items) }
+        (λ v. AreSaidPlaces nodes
+            (placed_ahead nodes [] lines.old (S.seen shelf.old).left) v.items) }
     ensures all { IfOk result (λ v. length v.items ≡ nodes) }
-    ensures refused { Refuses (placed_ahead nodes [] lines.old (S.left shelf.old)) result }
+    ensures refused { Refuses (placed_ahead nodes [] lines.old (S.seen shelf.old).left) result }
     ensures unread { result ≡ Err GraphFault.Fault
-        → StaysUndecided (placed_ahead nodes []) S.left lines.old shelf.old shelf.new }
-    ensures fault { result ≡ Err GraphFault.Fault → CountRose S.faults shelf.old shelf.new }
-    ensures quiet { S.IsQuiet → result ≢ Err GraphFault.Fault
-        → CountStays S.faults shelf.old shelf.new }
-    ensures surely { S.IsSure shelf.old → result ≡ Err GraphFault.Fault → ⊥ }
-    ensures shelf { OnlyRead S.IsBegun S.held S.names S.IsSure S.faults shelf.old shelf.new }
+        → StaysUndecided (placed_ahead nodes []) lines.old (S.seen shelf.old) (S.seen shelf.new) }
+    ensures fault { result ≡ Err GraphFault.Fault
+        → CountRose (S.seen shelf.old) (S.seen shelf.new) }
+    ensures quiet { (S.seen shelf.old).quiet ≡ true → result ≢ Err GraphFault.Fault
+        → CountStays (S.seen shelf.old) (S.seen shelf.new) }
+    ensures surely { (S.seen shelf.old).sure ≡ true → result ≡ Err GraphFault.Fault → ⊥ }
+    ensures shelf { OnlyRead (S.seen shelf.old) (S.seen shelf.new) }
 {
     let mut coordinates = Coordinates::unplaced(alloc, nodes)?;
     while lines.read_line(shelf, line)? {

@@ -1,4 +1,4 @@
-ghost use Rattle.std.specs.Prelude.{◌≡◌, ◌≢◌, ℕ, ◌+◌, [], ◌∷◌, ◌++◌, false, IfOk, IfErr, OnOk, Ok, Err, List};
+ghost use Rattle.std.specs.Prelude.{◌≡◌, ◌≢◌, ℕ, ◌+◌, [], ◌∷◌, ◌++◌, true, false, IfOk, IfErr, OnOk, Ok, Err, List};
 ghost use Rattle.csv.specs.Records.{fields_of};
 ghost use Rattle.ride_base.specs.Buffers.{CameAtMost};
 ghost use Rattle.ride_base.specs.Outside.{CountRose, CountStays, OnlyRead};
@@ -36,20 +36,21 @@ pub fn read_fleet<S: Shelf>(
     shelf: &mut S,
     nodes: u32,
 ) -> Result<Items<Vehicle>, FleetFault>
-    requires { S.IsBegun shelf.old }
-    ensures fleet { IfOk result (λ v. WhereTold (S.left shelf.old) (HasFleet nodes v)) }
+    requires { (S.seen shelf.old).begun ≡ true }
+    ensures fleet { IfOk result (λ v. WhereTold (S.seen shelf.old).left (HasFleet nodes v)) }
     ensures vehicles { IfOk result (λ v. AreVehicles nodes v) }
     ensures refused { IfErr result (λ e. IsRefusal e
-        → WhereTold (S.left shelf.old) (IsRefusedAs nodes e)) }
-    ensures fault { result ≡ Err FleetFault.Fault → CountRose S.faults shelf.old shelf.new }
-    ensures quiet { S.IsQuiet → result ≢ Err FleetFault.Fault
-        → CountStays S.faults shelf.old shelf.new }
+        → WhereTold (S.seen shelf.old).left (IsRefusedAs nodes e)) }
+    ensures fault { result ≡ Err FleetFault.Fault
+        → CountRose (S.seen shelf.old) (S.seen shelf.new) }
+    ensures quiet { (S.seen shelf.old).quiet ≡ true → result ≢ Err FleetFault.Fault
+        → CountStays (S.seen shelf.old) (S.seen shelf.new) }
     ensures unread { result ≡ Err FleetFault.Fault
-        → WhereTold (S.left shelf.old) (λ text. IsReadWithin text (S.left shelf.new)) }
+        → WhereTold (S.seen shelf.old).left (λ text. IsReadWithin text (S.seen shelf.new).left) }
     ensures near { CameAtMost (largest_fleet_text + longest_read)
-        (S.left shelf.old) (S.left shelf.new) }
-    ensures surely { S.IsSure shelf.old → result ≡ Err FleetFault.Fault → ⊥ }
-    ensures shelf { OnlyRead S.IsBegun S.held S.names S.IsSure S.faults shelf.old shelf.new }
+        (S.seen shelf.old).left (S.seen shelf.new).left }
+    ensures surely { (S.seen shelf.old).sure ≡ true → result ≡ Err FleetFault.Fault → ⊥ }
+    ensures shelf { OnlyRead (S.seen shelf.old) (S.seen shelf.new) }
 {
     match whole(alloc, shelf, LARGEST_TEXT) {
         Ok(text) => vehicles_of(alloc, text.as_slice(), nodes),

@@ -44,19 +44,7 @@ struct WatchedShelf<'a, S: Drop> {
 }
 
 impl<'a, S: Shelf + Drop> Shelf for WatchedShelf<'a, S> {
-    ghost held = { λ s. S.held s.inner };
-
-    ghost left = { λ s. S.left s.inner };
-
-    ghost IsBegun = { λ s. S.IsBegun s.inner };
-
-    ghost names = { λ s. S.names s.inner };
-
-    ghost IsSure = { λ s. S.IsSure s.inner };
-
-    ghost faults = { λ s. S.faults s.inner };
-
-    ghost IsQuiet = { S.IsQuiet };
+    ghost seen = { λ s. S.seen s.inner };
 
     fn begin(&mut self, name: &str) -> Result<(), BeginFault> {
         self.log.reads.set(0);
@@ -77,11 +65,7 @@ struct WatchedSink<'a, K: Drop> {
 }
 
 impl<'a, K: Sink + Drop> Sink for WatchedSink<'a, K> {
-    ghost taken = { λ s. K.taken s.inner };
-
-    ghost faults = { λ s. K.faults s.inner };
-
-    ghost IsQuiet = { K.IsQuiet };
+    ghost seen = { λ s. K.seen s.inner };
 
     fn put(&mut self, piece: &[u8]) -> Result<usize, Failed> {
         let taken = self.inner.put(piece)?;

@@ -8,5 +8,5 @@ mod Prefixes
 mod ReadPiece
 mod Stored
 mod Takes
-mod Tells
+mod TellsLine
 mod WithinARead

@@ -7,10 +7,10 @@ use Rattle.ride_base.specs.Buffers.{limit_at, with_read}
 use Rattle.ride_base.specs.Pieces.{Piece, Whole, pieces, after_line, is_line_end, is_ended, ended_lines, ended_in_parts, longest_line}
 use Rattle.ride_base.specs.Prefixes.{IsReadWithLines, AreFirstLines, AreBefore, AreUnended, all_ended, behind_line_ends, last_part}
 use Rattle.ride_base.specs.Reader.{Limit, Long, Large}
-use Rattle.ride_base.specs.Reading.{Tells, Spends, line_read}
+use Rattle.ride_base.specs.Reading.{TellsLine, Spends, line_read}
 use Rattle.ride_base.specs.declared.lines.Line.{Line}
 use Rattle.ride_base.specs.declared.lines.LineFault.{LineFault}
-use Rattle.ride_base.proofs.Tells.{pieces_at_limit, pieces_at, cut_at, after_line_at}
+use Rattle.ride_base.proofs.TellsLine.{pieces_at_limit, pieces_at, cut_at, after_line_at}
 use Rattle.ride_base.proofs.Positions.{unended_before, unended}
 
 -- Prefixes of a text: lines that were read whole, and what is left behind them.
@@ -139,7 +139,7 @@ failed_behind all text rest pending l lines room f is h few =
     )
 
 -- one line more was given
-one_given : (p p' : List ℕ) (room room' : ℕ) (left left' : Option (List ℕ)) (line : Line) → Tells room (with_read p left) (Ok (Some line)) room' (with_read p' left') → Spends room (with_read p left) room' (with_read p' left') → line.ended ≡ true
+one_given : (p p' : List ℕ) (room room' : ℕ) (left left' : Option (List ℕ)) (line : Line) → TellsLine room (with_read p left) (Ok (Some line)) room' (with_read p' left') → Spends room (with_read p left) room' (with_read p' left') → line.ended ≡ true
     → (all : ℕ) (text : List ℕ) (lines : List (List ℕ)) → AreBefore all text lines room p left → AreBefore all text (lines ++ line.bytes ∷ []) room' p' left'
 one_given p p' room room' None left' line t s ended all text lines g = absurd g
 one_given p p' room room' (Some l) None line t s ended all text lines g = let f = t.1 in cc
@@ -158,7 +158,7 @@ before_still p p' room (Some l) (Some l') e all text lines g = let is : p ++ l �
 
 -- what a call gave, behind what it read
 pub line_goes : (p now p' : List ℕ) (room room' : ℕ) (left left' : Option (List ℕ)) (answer : Result Bool LineFault) (line : Line) → with_read now left' ≡ with_read p left
-    → Tells room (with_read now left') (line_read answer line) room' (with_read p' left') → Spends room (with_read now left') room' (with_read p' left')
+    → TellsLine room (with_read now left') (line_read answer line) room' (with_read p' left') → Spends room (with_read now left') room' (with_read p' left')
     → IfOk (line_read answer line) (λ o. IfSome o (λ given. given.ended ≡ true → (all : ℕ) (text : List ℕ) (lines : List (List ℕ)) → AreBefore all text lines room p left → AreBefore all text (lines ++ given.bytes ∷ []) room' p' left'))
 line_goes p now p' room room' left left' (Ok true) line e t s = λ ended all text lines g. one_given now p' room room' left' left' line t s ended all text lines (before_still p now room left left' e all text lines g)
 line_goes p now p' room room' left left' (Ok false) line e t s = tt

@@ -1,6 +1,6 @@
 use Rattle.std.specs.Prelude.{◌≡◌, ℕ, ◌+◌, ◌-◌, ◌<◌, ◌≤◌, ◌++◌, List, [], length, take, position, Option, Some, None, ◌&&◌, nat_lt, nat_le, cond, min}
 use Rattle.std.specs.List.{position_or_len}
-use Rattle.ride_base.specs.Outside.{Moves}
+use Rattle.ride_base.specs.Outside.{ShelfState, Moves}
 use Rattle.ride_base.specs.Pieces.{is_line_end, longest_line}
 use Rattle.ride_base.specs.Reader.{Limit, Long, Large, HasNoLineEnd, longest_read}
 use Rattle.ride_base.specs.declared.buffer.LineScan.{LineScan}
@@ -12,8 +12,8 @@ with_read read None = None
 with_read read (Some left) = Some (read ++ left)
 
 -- no byte of the text was lost: what was read and not given, and what is left, are together what they were
-abbrev pub LosesNothing : {S : Type 0} → (left : S → Option (List ℕ)) → List ℕ → S → List ℕ → S → Type 0
-LosesNothing left old shelf new shelf' = with_read new (left shelf') ≡ with_read old (left shelf)
+abbrev pub LosesNothing : List ℕ → ShelfState → List ℕ → ShelfState → Type 0
+LosesNothing old shelf new shelf' = with_read new shelf'.left ≡ with_read old shelf.left
 
 -- the next k bytes of what is left came to the end of the bytes, and none only at the end of the text
 pub record Gains (old new : List ℕ) (left left' : Option (List ℕ)) (k : ℕ) : Type 0 where
@@ -22,9 +22,9 @@ pub record Gains (old new : List ℕ) (left left' : Option (List ℕ)) (k : ℕ)
   pub added : new ≡ old ++ take k piece
   pub moved : Moves left left' piece k
 
--- the same, where a shelf tells what is left
-abbrev pub Brings : {S : Type 0} → (left : S → Option (List ℕ)) → List ℕ → S → List ℕ → S → ℕ → Type 0
-Brings left old shelf new shelf' k = Gains old new (left shelf) (left shelf') k
+-- the same between these moments of a shelf
+abbrev pub Brings : List ℕ → ShelfState → List ℕ → ShelfState → ℕ → Type 0
+Brings old shelf new shelf' k = Gains old new shelf.left shelf'.left k
 
 -- nothing is left, where that is told
 abbrev pub IsAtEnd : Option (List ℕ) → Type 0

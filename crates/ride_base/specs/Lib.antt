@@ -1,4 +1,5 @@
 pub mod Outside
+pub mod Calls
 pub mod Pieces
 pub mod Prefixes
 pub mod Reader

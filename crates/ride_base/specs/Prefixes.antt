@@ -1,6 +1,7 @@
 use Rattle.std.specs.Prelude.{◌≡◌, ℕ, ◌+◌, ◌≤◌, false, List, [], ◌∷◌, ◌++◌, map, length, Option, Some, None, refl}
 use Rattle.std.specs.List.{All, slice_split}
 use Rattle.std.specs.Str.Lines.{strip_carriage_return}
+use Rattle.ride_base.specs.Outside.{ShelfState}
 use Rattle.ride_base.specs.Pieces.{Piece, Whole, pieces, ended_lines, is_line_end, longest_line}
 use Rattle.ride_base.specs.Reader.{Reader}
 
@@ -61,14 +62,14 @@ abbrev pub IsReadWithLines : (all : ℕ) → (text : List ℕ) → (lines : List
 IsReadWithLines all text lines left = (r : IsReadTo all text left) × (ended_lines r.read ≡ lines)
 
 -- whichever lines a reader gave, exactly they are ended among what was read
-abbrev pub HasReadGiven : {S : Type 0} → (left : S → Option (List ℕ)) → Reader → S → S → Type 0
-HasReadGiven left reader shelf shelf' =
-    (all : ℕ) (text : List ℕ) (lines : List (List ℕ)) → AreGiven all text lines reader (left shelf) → IsReadWithLines all text lines (left shelf')
+abbrev pub HasReadGiven : Reader → ShelfState → ShelfState → Type 0
+HasReadGiven reader shelf shelf' =
+    (all : ℕ) (text : List ℕ) (lines : List (List ℕ)) → AreGiven all text lines reader shelf.left → IsReadWithLines all text lines shelf'.left
 
 -- whichever lines a reader gave, it has given one more
-abbrev pub HasGivenMore : {S : Type 0} → (left : S → Option (List ℕ)) → Reader → S → (line : List ℕ) → Reader → S → Type 0
-HasGivenMore left old shelf line new shelf' =
-    (all : ℕ) (text : List ℕ) (lines : List (List ℕ)) → AreGiven all text lines old (left shelf) → AreGiven all text (lines ++ line ∷ []) new (left shelf')
+abbrev pub HasGivenMore : Reader → ShelfState → (line : List ℕ) → Reader → ShelfState → Type 0
+HasGivenMore old shelf line new shelf' =
+    (all : ℕ) (text : List ℕ) (lines : List (List ℕ)) → AreGiven all text lines old shelf.left → AreGiven all text (lines ++ line ∷ []) new shelf'.left
 
 behind_two : behind_line_ends (97 ∷ 10 ∷ 98 ∷ 10 ∷ 99 ∷ []) ≡ 99 ∷ []
 behind_two = refl

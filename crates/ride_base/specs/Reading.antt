@@ -2,6 +2,7 @@ use Rattle.std.specs.Prelude.{◌≡◌, ℕ, ◌+◌, ◌<◌, ◌≤◌, ◌++
 use Rattle.ride_base.specs.Pieces.{Whole, TooLong, TooLarge, pieces, after_line, is_ended}
 use Rattle.ride_base.specs.Buffers.{with_read, IsAtEnd, IsWithinARead}
 use Rattle.ride_base.specs.Prefixes.{HasGivenMore}
+use Rattle.ride_base.specs.Outside.{ShelfState}
 use Rattle.ride_base.specs.Reader.{Reader, Limit, Long as LineLimit, Large as TextLimit, most_line}
 use Rattle.ride_base.specs.declared.buffer.ReadFault.{ReadFault}
 use Rattle.ride_base.specs.declared.buffer.ReadFault.TheVariants.{Failed, NoMemory as ReadNoMemory}
@@ -15,15 +16,15 @@ unread reader left = with_read reader.pending left
 
 -- What an answer says of the text that was not given before, where it is told, and what then is not given. `room` and `room'` are
 -- the bytes that may be given before and after.
-abbrev pub Tells : ℕ → Option (List ℕ) → Result (Option Line) LineFault → ℕ → Option (List ℕ) → Type 0
-Tells room None answer room' after = after ≡ None
-Tells room (Some text) (Ok None) room' after = (text ≡ []) × (after ≡ Some [])
-Tells room (Some text) (Ok (Some line)) room' after =
+abbrev pub TellsLine : ℕ → Option (List ℕ) → Result (Option Line) LineFault → ℕ → Option (List ℕ) → Type 0
+TellsLine room None answer room' after = after ≡ None
+TellsLine room (Some text) (Ok None) room' after = (text ≡ []) × (after ≡ Some [])
+TellsLine room (Some text) (Ok (Some line)) room' after =
     (pieces room text ≡ Whole line.bytes ∷ pieces room' (after_line text)) × (after ≡ Some (after_line text)) × (line.ended ≡ is_ended text)
-Tells room (Some text) (Err Fault) room' after = after ≡ Some text
-Tells room (Some text) (Err Long) room' after = (pieces room text ≡ TooLong ∷ []) × (after ≡ Some text)
-Tells room (Some text) (Err Large) room' after = (pieces room text ≡ TooLarge ∷ []) × (after ≡ Some text)
-Tells room (Some text) (Err NoMemory) room' after = after ≡ Some text
+TellsLine room (Some text) (Err Fault) room' after = after ≡ Some text
+TellsLine room (Some text) (Err Long) room' after = (pieces room text ≡ TooLong ∷ []) × (after ≡ Some text)
+TellsLine room (Some text) (Err Large) room' after = (pieces room text ≡ TooLarge ∷ []) × (after ≡ Some text)
+TellsLine room (Some text) (Err NoMemory) room' after = after ≡ Some text
 
 -- what a call answers that reads a line into one that is there
 abbrev pub line_read : Result Bool LineFault → Line → Result (Option Line) LineFault
@@ -79,16 +80,16 @@ TellsWhole (Some text) limit (Err Fault) (Some after) = (lost : List ℕ) × (le
 TellsWhole (Some text) limit (Err error) None = ⊥
 TellsWhole (Some text) limit (Err error) (Some after) = (lost : List ℕ) × (text ≡ lost ++ after)
 
--- What the call for the next line promises. `left` tells what is left on a shelf, `old` and `shelf` are the reader and the shelf before
--- the call, `new` and `shelf'` after it.
+-- What the call for the next line promises. `old` and `shelf` are the reader and what is seen of the shelf before the call, `new` and
+-- `shelf'` after it.
 
 -- what its answer says of the text, where the reader was neither stopped nor over
-abbrev pub TellsNext : {S : Type 0} → (left : S → Option (List ℕ)) → Reader → S → Result (Option Line) LineFault → Reader → S → Type 0
-TellsNext left old shelf answer new shelf' =
-    old.stopped ≡ None → old.over ≡ false → Tells old.room (unread old (left shelf)) answer new.room (unread new (left shelf'))
+abbrev pub TellsNext : Reader → ShelfState → Result (Option Line) LineFault → Reader → ShelfState → Type 0
+TellsNext old shelf answer new shelf' =
+    old.stopped ≡ None → old.over ≡ false → TellsLine old.room (unread old shelf.left) answer new.room (unread new shelf'.left)
 
-abbrev pub SpendsNext : {S : Type 0} → (left : S → Option (List ℕ)) → Reader → S → Reader → S → Type 0
-SpendsNext left old shelf new shelf' = Spends old.room (unread old (left shelf)) new.room (unread new (left shelf'))
+abbrev pub SpendsNext : Reader → ShelfState → Reader → ShelfState → Type 0
+SpendsNext old shelf new shelf' = Spends old.room (unread old shelf.left) new.room (unread new shelf'.left)
 
 -- a reader that gave all gives no line, and nothing moves
 abbrev pub StaysOver : {S X : Type 0} → (none : X) → Reader → S → Result X LineFault → Reader → S → Type 0
@@ -99,20 +100,20 @@ abbrev pub StaysStopped : {S X : Type 0} → Reader → S → Result X LineFault
 StaysStopped old shelf answer new shelf' = IfSome old.stopped (λ limit. (answer ≡ Err (fault_of limit)) × (new ≡ old) × (shelf' ≡ shelf))
 
 -- where the answer is an ended line, the reader has given one line more
-abbrev pub GivesOneMore : {S : Type 0} → (left : S → Option (List ℕ)) → Reader → S → Result (Option Line) LineFault → Reader → S → Type 0
-GivesOneMore left old shelf answer new shelf' = IfOk answer (λ o. IfSome o (λ line. line.ended ≡ true → HasGivenMore left old shelf line.bytes new shelf'))
+abbrev pub GivesOneMore : Reader → ShelfState → Result (Option Line) LineFault → Reader → ShelfState → Type 0
+GivesOneMore old shelf answer new shelf' = IfOk answer (λ o. IfSome o (λ line. line.ended ≡ true → HasGivenMore old shelf line.bytes new shelf'))
 
 -- what was read goes at most one read past the next line
-abbrev pub IsNear : {S : Type 0} → (left : S → Option (List ℕ)) → Reader → S → S → Type 0
-IsNear left old shelf shelf' = IsWithinARead (most_line old) old.pending (left shelf) (left shelf')
+abbrev pub IsNear : Reader → ShelfState → ShelfState → Type 0
+IsNear old shelf shelf' = IsWithinARead (most_line old) old.pending shelf.left shelf'.left
 
 -- The same of a call that reads nothing, whatever is left.
 abbrev pub TellsStill : Reader → Result (Option Line) LineFault → Reader → Type 0
-TellsStill old answer new = (left : Option (List ℕ)) → Tells old.room (unread old left) answer new.room (unread new left)
+TellsStill old answer new = (left : Option (List ℕ)) → TellsLine old.room (unread old left) answer new.room (unread new left)
 
 -- the same at the end of the text
 abbrev pub TellsAtEnd : Reader → Result (Option Line) LineFault → Reader → Type 0
-TellsAtEnd old answer new = (left : Option (List ℕ)) → IsAtEnd left → Tells old.room (unread old left) answer new.room (unread new left)
+TellsAtEnd old answer new = (left : Option (List ℕ)) → IsAtEnd left → TellsLine old.room (unread old left) answer new.room (unread new left)
 
 abbrev pub SpendsStill : Reader → Reader → Type 0
 SpendsStill old new = (left : Option (List ℕ)) → Spends old.room (unread old left) new.room (unread new left)

@@ -1,7 +1,7 @@
-use Rattle.std.specs.Prelude.{◌≡◌, ℕ, ◌-◌, ◌^◌, ◌==◌, min, Bool, true, false, ◌&&◌, ◌||◌, not, cond, List, [], ◌∷◌, ◌++◌, length, take, drop, Option, Some, None, Result, Ok, IsErr, IsSome, IfSome, IsTrue, slice_get, codes, refl}
+use Rattle.std.specs.Prelude.{◌≡◌, ℕ, ◌-◌, ◌^◌, ◌==◌, min, Bool, true, false, ◌&&◌, ◌||◌, not, cond, List, [], ◌∷◌, ◌++◌, length, take, drop, Option, Some, None, Result, Ok, IsErr, is_some, IfSome, IsTrue, slice_get, codes, refl}
 use Rattle.std.specs.List.{list_any}
 use Rattle.std.specs.Str.{bytes_eq}
-use Rattle.ride_base.specs.Outside.{Held, Absent, Text, OnlyRead, raised}
+use Rattle.ride_base.specs.Outside.{Held, Absent, Text, ShelfState, SinkState, raised}
 use Rattle.ride_base.specs.declared.outside.Failed.{Failed}
 use Rattle.ride_base.specs.declared.memory.StoredText.{StoredText}
 use Rattle.ride_base.specs.declared.memory.FailingCall.{FailingCall}
@@ -66,17 +66,22 @@ left_of (Some begun) = Some begun.left
 abbrev pub left_in : Store → Option (List ℕ)
 left_in store = left_of store.begun
 
--- a text is begun
-abbrev pub HasBegun : Store → Type 0
-HasBegun store = IsSome store.begun
-
 -- no call is listed as failing
-abbrev pub IsSureStore : Store → Type 0
-IsSureStore store = store.failing ≡ []
+abbrev pub lists_none : List FailingCall → Bool
+lists_none [] = true
+lists_none (listed ∷ more) = false
 
--- the shelf was only read
-abbrev pub OnlyReadStore : Store → Store → Type 0
-OnlyReadStore old new = OnlyRead HasBegun (λ store. held_in store.texts) (λ store. store.names) IsSureStore (λ store. store.faults) old new
+-- what is seen of a shelf over memory
+abbrev pub store_seen : Store → ShelfState
+store_seen store = record {
+  held = held_in store.texts;
+  names = store.names;
+  left = left_in store;
+  begun = is_some store.begun;
+  sure = lists_none store.failing;
+  quiet = true;
+  faults = store.faults;
+}
 
 -- the shelf with one text more
 abbrev pub with_text : Store → (name bytes : List ℕ) → Store
@@ -156,6 +161,10 @@ pub record Basin : Type 0 where
   pub failing : List ℕ
   pub puts : ℕ
   pub faults : ℕ
+
+-- what is seen of a sink over memory
+abbrev pub basin_seen : Basin → SinkState
+basin_seen basin = record { taken = Some basin.taken; quiet = true; faults = basin.faults }
 
 -- the sink that took nothing
 abbrev pub empty_basin : ℕ → Basin

@@ -1,4 +1,4 @@
-ghost use Rattle.std.specs.Prelude.{◌≡◌, ◌≢◌, ℕ, ◌<◌, ◌≤◌, ◌+◌, ◌++◌, List, [], length, take, drop, position, Option, Some, None, OnOk, OnErr, IfOk, IsOk, IsSome, Err};
+ghost use Rattle.std.specs.Prelude.{◌≡◌, ◌≢◌, ℕ, true, ◌<◌, ◌≤◌, ◌+◌, ◌++◌, List, [], length, take, drop, position, Option, Some, None, OnOk, OnErr, IfOk, IsOk, IsSome, Err};
 ghost use Rattle.std.specs.List.{position_or_len};
 ghost use Rattle.std.specs.Str.Lines.{strip_carriage_return};
 ghost use Rattle.ride_base.specs.Outside.{CountRose, CountStays, OnlyRead};
@@ -86,18 +86,20 @@ impl Buffer {
 
     /// Reads once more, and answers how many bytes came: 0 only at the end of the text.
     fn read<S: Shelf>(&mut self, shelf: &mut S) -> Result<usize, ReadFault>
-        requires begun { S.IsBegun shelf.old }
+        requires begun { (S.seen shelf.old).begun ≡ true }
         requires few { length self.old ≤ longest_line }
-        ensures ok { IfOk result (Brings S.left self.old shelf.old self.new shelf.new) }
+        ensures ok { IfOk result (Brings self.old (S.seen shelf.old) self.new (S.seen shelf.new)) }
         ensures small { IfOk result (λ k. k ≤ longest_read) }
         ensures held { length self.new ≤ most_held }
         ensures kept { OnErr result (self.new ≡ self.old) }
-        ensures left { OnErr result (S.left shelf.new ≡ S.left shelf.old) }
+        ensures left { OnErr result ((S.seen shelf.new).left ≡ (S.seen shelf.old).left) }
         ensures unread { result ≡ Err ReadFault.NoMemory → shelf.new ≡ shelf.old }
-        ensures rose { result ≡ Err ReadFault.Failed → CountRose S.faults shelf.old shelf.new }
-        ensures quiet { S.IsQuiet → IsOk result → CountStays S.faults shelf.old shelf.new }
-        ensures surely { S.IsSure shelf.old → result ≡ Err ReadFault.Failed → ⊥ }
-        ensures shelf { OnlyRead S.IsBegun S.held S.names S.IsSure S.faults shelf.old shelf.new }
+        ensures rose { result ≡ Err ReadFault.Failed
+            → CountRose (S.seen shelf.old) (S.seen shelf.new) }
+        ensures quiet { (S.seen shelf.old).quiet ≡ true → IsOk result
+            → CountStays (S.seen shelf.old) (S.seen shelf.new) }
+        ensures surely { (S.seen shelf.old).sure ≡ true → result ≡ Err ReadFault.Failed → ⊥ }
+        ensures shelf { OnlyRead (S.seen shelf.old) (S.seen shelf.new) }
     {
         self.bytes.drain(..self.start);
         self.start = 0;
@@ -106,21 +108,22 @@ impl Buffer {
 
     /// Reads until a line end is there, or more bytes than `most`, or the text is at its end.
     pub fn scan<S: Shelf>(&mut self, shelf: &mut S, most: usize) -> Result<LineScan, ReadFault>
-        requires begun { S.IsBegun shelf.old }
+        requires begun { (S.seen shelf.old).begun ≡ true }
         requires most { most ≤ longest_line }
         requires held { length self.old ≤ most_held }
-        ensures scan { IfOk result (IsScanOf self.new most (S.left shelf.new)) }
-        ensures unread { LosesNothing S.left self.old shelf.old self.new shelf.new }
+        ensures scan { IfOk result (IsScanOf self.new most (S.seen shelf.new).left) }
+        ensures unread { LosesNothing self.old (S.seen shelf.old) self.new (S.seen shelf.new) }
         ensures held { length self.new ≤ most_held }
         ensures unended { OnErr result (HasNoLineEnd self.new) }
         ensures few { OnErr result (length self.new ≤ most) }
-        ensures rose { result ≡ Err ReadFault.Failed → CountRose S.faults shelf.old shelf.new }
-        ensures quiet { S.IsQuiet → result ≢ Err ReadFault.Failed
-            → CountStays S.faults shelf.old shelf.new }
-        ensures surely { S.IsSure shelf.old → result ≡ Err ReadFault.Failed → ⊥ }
+        ensures rose { result ≡ Err ReadFault.Failed
+            → CountRose (S.seen shelf.old) (S.seen shelf.new) }
+        ensures quiet { (S.seen shelf.old).quiet ≡ true → result ≢ Err ReadFault.Failed
+            → CountStays (S.seen shelf.old) (S.seen shelf.new) }
+        ensures surely { (S.seen shelf.old).sure ≡ true → result ≡ Err ReadFault.Failed → ⊥ }
         ensures holds { IsSome (position is_line_end self.old) → shelf.new ≡ shelf.old }
-        ensures near { IsWithinARead most self.old (S.left shelf.old) (S.left shelf.new) }
-        ensures shelf { OnlyRead S.IsBegun S.held S.names S.IsSure S.faults shelf.old shelf.new }
+        ensures near { IsWithinARead most self.old (S.seen shelf.old).left (S.seen shelf.new).left }
+        ensures shelf { OnlyRead (S.seen shelf.old) (S.seen shelf.new) }
     {
         loop {
             if let Some(at) = self.find() {
@@ -194,16 +197,18 @@ fn stripped(bytes: &[u8]) -> &[u8]
 /// Reads once to the end of the bytes, and answers how many came: 0 only at the end of the text. Memory is taken before the read,
 /// so that no byte of the text is lost.
 pub fn read_piece<S: Shelf>(shelf: &mut S, bytes: &mut Vec<u8>) -> Result<usize, ReadFault>
-    requires { S.IsBegun shelf.old }
-    ensures ok { IfOk result (Brings S.left bytes.old.items shelf.old bytes.new.items shelf.new) }
+    requires { (S.seen shelf.old).begun ≡ true }
+    ensures ok { IfOk result
+        (Brings bytes.old.items (S.seen shelf.old) bytes.new.items (S.seen shelf.new)) }
     ensures small { IfOk result (λ k. k ≤ longest_read) }
     ensures kept { OnErr result (bytes.new.items ≡ bytes.old.items) }
-    ensures left { OnErr result (S.left shelf.new ≡ S.left shelf.old) }
+    ensures left { OnErr result ((S.seen shelf.new).left ≡ (S.seen shelf.old).left) }
     ensures unread { result ≡ Err ReadFault.NoMemory → shelf.new ≡ shelf.old }
-    ensures rose { result ≡ Err ReadFault.Failed → CountRose S.faults shelf.old shelf.new }
-    ensures quiet { S.IsQuiet → IsOk result → CountStays S.faults shelf.old shelf.new }
-    ensures surely { S.IsSure shelf.old → result ≡ Err ReadFault.Failed → ⊥ }
-    ensures shelf { OnlyRead S.IsBegun S.held S.names S.IsSure S.faults shelf.old shelf.new }
+    ensures rose { result ≡ Err ReadFault.Failed → CountRose (S.seen shelf.old) (S.seen shelf.new) }
+    ensures quiet { (S.seen shelf.old).quiet ≡ true → IsOk result
+        → CountStays (S.seen shelf.old) (S.seen shelf.new) }
+    ensures surely { (S.seen shelf.old).sure ≡ true → result ≡ Err ReadFault.Failed → ⊥ }
+    ensures shelf { OnlyRead (S.seen shelf.old) (S.seen shelf.new) }
 {
     let filled = bytes.len();
     if bytes.resize(filled + PIECE, 0).is_err() {

@@ -1,4 +1,4 @@
-ghost use Rattle.std.specs.Prelude.{◌≡◌, ℕ, ◌<◌, ◌≤◌, List, [], length, Option, Some, None, IsSome, IfOk};
+ghost use Rattle.std.specs.Prelude.{◌≡◌, ℕ, ◌<◌, ◌≤◌, List, [], length, Option, Some, None, is_some, true, false, IfOk};
 ghost use Rattle.ride_base.specs.Outside.{Held, Untold};
 
 use crate::items::Items;
@@ -21,9 +21,9 @@ pub struct HostShelf<'a, R: Files> {
 impl<'a, R: Files> HostShelf<'a, R> {
     /// A shelf with no text begun. It takes no memory.
     pub fn new(rt: &'a R, alloc: Global) -> HostShelf<'a, R>
-        ensures names { ⟦<HostShelf<'a, R> as Shelf>⟧.names result ≡ [] }
-        ensures faults { ⟦<HostShelf<'a, R> as Shelf>⟧.faults result ≡ 0 }
-        ensures unbegun { ⟦<HostShelf<'a, R> as Shelf>⟧.IsBegun result → ⊥ }
+        ensures names { (⟦<HostShelf<'a, R> as Shelf>⟧.seen result).names ≡ [] }
+        ensures faults { (⟦<HostShelf<'a, R> as Shelf>⟧.seen result).faults ≡ 0 }
+        ensures unbegun { (⟦<HostShelf<'a, R> as Shelf>⟧.seen result).begun ≡ false }
     {
         HostShelf {
             rt,
@@ -36,19 +36,15 @@ impl<'a, R: Files> HostShelf<'a, R> {
 }
 
 impl<'a, R: Files> Shelf for HostShelf<'a, R> {
-    ghost held = { λ s name. Untold };
-
-    ghost left = { λ s. None };
-
-    ghost IsBegun = { λ s. IsSome s.text };
-
-    ghost names = { λ s. s.names };
-
-    ghost IsSure = { λ s. ⊥ };
-
-    ghost faults = { λ s. s.faults };
-
-    ghost IsQuiet = { Unit {0} };
+    ghost seen = { λ s. record {
+      held = λ name. Untold;
+      names = s.names;
+      left = None;
+      begun = is_some s.text;
+      sure = false;
+      quiet = true;
+      faults = s.faults;
+    } };
 
     fn begin(&mut self, name: &str) -> Result<(), BeginFault> {
         let Ok(copy) = Items::from_slice(self.alloc, name.as_bytes()) else {
@@ -94,18 +90,14 @@ pub struct HostSink<'a, R: Print> {
 impl<'a, R: Print> HostSink<'a, R> {
     /// The standard output, with no fault counted yet. It writes nothing and takes no memory.
     pub fn new(rt: &'a R) -> HostSink<'a, R>
-        ensures faults { ⟦<HostSink<'a, R> as Sink>⟧.faults result ≡ 0 }
+        ensures faults { (⟦<HostSink<'a, R> as Sink>⟧.seen result).faults ≡ 0 }
     {
         HostSink { rt, faults: 0 }
     }
 }
 
 impl<'a, R: Print> Sink for HostSink<'a, R> {
-    ghost taken = { λ s. None };
-
-    ghost faults = { λ s. s.faults };
-
-    ghost IsQuiet = { Unit {0} };
+    ghost seen = { λ s. record { taken = None; quiet = true; faults = s.faults } };
 
     fn put(&mut self, piece: &[u8]) -> Result<usize, Failed> {
         match self.rt.write_some(piece) {

@@ -1,4 +1,4 @@
-ghost use Rattle.std.specs.Prelude.{◌≡◌, ◌≢◌, ℕ, ◌<◌, ◌≤◌, ◌+◌, List, [], false, Ok, length, min, cond, position, Option, Some, None, IfSome, IsSome, Err};
+ghost use Rattle.std.specs.Prelude.{◌≡◌, ◌≢◌, ℕ, ◌<◌, ◌≤◌, ◌+◌, List, [], true, false, Ok, length, min, cond, position, Option, Some, None, IfSome, IsSome, Err};
 ghost use Rattle.ride_base.specs.Outside.{CountRose, CountStays, OnlyRead};
 ghost use Rattle.ride_base.specs.Pieces.{is_line_end, largest_text, longest_line};
 ghost use Rattle.ride_base.specs.Reader.{HasNoLineEnd, most_held, most_line, new_reader};
@@ -166,27 +166,28 @@ impl Lines {
         alloc: Global,
         shelf: &mut S,
     ) -> Result<Option<Line>, LineFault>
-        requires { S.IsBegun shelf.old }
-        ensures tells { TellsNext S.left self.old shelf.old result self.new shelf.new }
-        ensures spends { SpendsNext S.left self.old shelf.old self.new shelf.new }
+        requires { (S.seen shelf.old).begun ≡ true }
+        ensures tells { TellsNext self.old (S.seen shelf.old) result self.new (S.seen shelf.new) }
+        ensures spends { SpendsNext self.old (S.seen shelf.old) self.new (S.seen shelf.new) }
         ensures counts { Counts self.old result self.new }
         ensures stops { self.new.stopped ≡ limit_after result }
         ensures over { self.new.over ≡ over_after self.old.over result }
         ensures ended { StaysOver None self.old shelf.old result self.new shelf.new }
         ensures again { StaysStopped self.old shelf.old result self.new shelf.new }
-        ensures goes { GivesOneMore S.left self.old shelf.old result self.new shelf.new }
+        ensures goes { GivesOneMore self.old (S.seen shelf.old) result self.new (S.seen shelf.new) }
         ensures failed { result ≡ Err LineFault.Fault
-            → HasReadGiven S.left self.old shelf.old shelf.new }
-        ensures rose { result ≡ Err LineFault.Fault → CountRose S.faults shelf.old shelf.new }
-        ensures quiet { S.IsQuiet → result ≢ Err LineFault.Fault
-            → CountStays S.faults shelf.old shelf.new }
+            → HasReadGiven self.old (S.seen shelf.old) (S.seen shelf.new) }
+        ensures rose { result ≡ Err LineFault.Fault
+            → CountRose (S.seen shelf.old) (S.seen shelf.new) }
+        ensures quiet { (S.seen shelf.old).quiet ≡ true → result ≢ Err LineFault.Fault
+            → CountStays (S.seen shelf.old) (S.seen shelf.new) }
         ensures unended { result ≡ Err LineFault.Fault → HasNoLineEnd self.new.pending }
         ensures few { result ≡ Err LineFault.Fault → length self.new.pending ≤ most_line self.old }
-        ensures surely { S.IsSure shelf.old → result ≡ Err LineFault.Fault → ⊥ }
+        ensures surely { (S.seen shelf.old).sure ≡ true → result ≡ Err LineFault.Fault → ⊥ }
         ensures holds { IsSome (position is_line_end self.old.pending) → shelf.new ≡ shelf.old }
-        ensures near { IsNear S.left self.old shelf.old shelf.new }
+        ensures near { IsNear self.old (S.seen shelf.old) (S.seen shelf.new) }
         ensures held { length self.new.pending ≤ most_held }
-        ensures shelf { OnlyRead S.IsBegun S.held S.names S.IsSure S.faults shelf.old shelf.new }
+        ensures shelf { OnlyRead (S.seen shelf.old) (S.seen shelf.new) }
     {
         let mut line = Line::new(alloc);
         match self.read_line(shelf, &mut line) {
@@ -199,29 +200,30 @@ impl Lines {
     /// Reads the next line as `next` does, into a line that is there, and answers whether there was one. So a whole text is read in
     /// the memory of one line. Where no line was read, nothing is said of what `line` then is.
     pub fn read_line<S: Shelf>(&mut self, shelf: &mut S, line: &mut Line) -> Result<bool, LineFault>
-        requires { S.IsBegun shelf.old }
-        ensures tells { TellsNext S.left self.old shelf.old (line_read result line.new)
-            self.new shelf.new }
-        ensures spends { SpendsNext S.left self.old shelf.old self.new shelf.new }
+        requires { (S.seen shelf.old).begun ≡ true }
+        ensures tells { TellsNext self.old (S.seen shelf.old) (line_read result line.new)
+            self.new (S.seen shelf.new) }
+        ensures spends { SpendsNext self.old (S.seen shelf.old) self.new (S.seen shelf.new) }
         ensures counts { Counts self.old (line_read result line.new) self.new }
         ensures stops { self.new.stopped ≡ limit_after (line_read result line.new) }
         ensures over { self.new.over ≡ over_after self.old.over (line_read result line.new) }
         ensures ended { StaysOver false self.old shelf.old result self.new shelf.new }
         ensures again { StaysStopped self.old shelf.old result self.new shelf.new }
-        ensures goes { GivesOneMore S.left self.old shelf.old (line_read result line.new)
-            self.new shelf.new }
+        ensures goes { GivesOneMore self.old (S.seen shelf.old) (line_read result line.new)
+            self.new (S.seen shelf.new) }
         ensures failed { result ≡ Err LineFault.Fault
-            → HasReadGiven S.left self.old shelf.old shelf.new }
-        ensures rose { result ≡ Err LineFault.Fault → CountRose S.faults shelf.old shelf.new }
-        ensures quiet { S.IsQuiet → result ≢ Err LineFault.Fault
-            → CountStays S.faults shelf.old shelf.new }
+            → HasReadGiven self.old (S.seen shelf.old) (S.seen shelf.new) }
+        ensures rose { result ≡ Err LineFault.Fault
+            → CountRose (S.seen shelf.old) (S.seen shelf.new) }
+        ensures quiet { (S.seen shelf.old).quiet ≡ true → result ≢ Err LineFault.Fault
+            → CountStays (S.seen shelf.old) (S.seen shelf.new) }
         ensures unended { result ≡ Err LineFault.Fault → HasNoLineEnd self.new.pending }
         ensures few { result ≡ Err LineFault.Fault → length self.new.pending ≤ most_line self.old }
-        ensures surely { S.IsSure shelf.old → result ≡ Err LineFault.Fault → ⊥ }
+        ensures surely { (S.seen shelf.old).sure ≡ true → result ≡ Err LineFault.Fault → ⊥ }
         ensures holds { IsSome (position is_line_end self.old.pending) → shelf.new ≡ shelf.old }
-        ensures near { IsNear S.left self.old shelf.old shelf.new }
+        ensures near { IsNear self.old (S.seen shelf.old) (S.seen shelf.new) }
         ensures held { length self.new.pending ≤ most_held }
-        ensures shelf { OnlyRead S.IsBegun S.held S.names S.IsSure S.faults shelf.old shelf.new }
+        ensures shelf { OnlyRead (S.seen shelf.old) (S.seen shelf.new) }
     {
         if let Some(limit) = self.stopped {
             return Err(limit.fault());

@@ -1,6 +1,6 @@
-ghost use Rattle.std.specs.Prelude.{◌≡◌, ℕ, ◌+◌, ◌<◌, ◌≤◌, ◌^◌, ◌++◌, ◌∷◌, [], List, Bool, true, false, IsTrue, length, take, drop, min, slice_get, MatchOption, IfSome, IsSome, Option, Some, None, OnOk, OnErr, IfOk, IsOk};
-ghost use Rattle.ride_base.specs.Outside.{Absent, Rose, MovesInto};
-ghost use Rattle.ride_base.specs.Stored.{Store, Puts, ReadsText, BeginsText, RefusesText, OnlyReadStore, HasBegun, IsSureStore, empty_store, empty_basin, with_text, with_failing, with_failing_put, held_in, left_in, is_listed, holds_at, name_of};
+ghost use Rattle.std.specs.Prelude.{◌≡◌, ℕ, ◌+◌, ◌<◌, ◌≤◌, ◌^◌, ◌++◌, ◌∷◌, [], List, Bool, true, false, IsTrue, length, take, drop, min, slice_get, MatchOption, IfSome, is_some, Option, Some, None, OnOk, OnErr, IfOk, IsOk};
+ghost use Rattle.ride_base.specs.Outside.{Absent, Rose, MovesInto, OnlyRead};
+ghost use Rattle.ride_base.specs.Stored.{Store, Puts, ReadsText, BeginsText, RefusesText, store_seen, lists_none, empty_store, empty_basin, with_text, with_failing, with_failing_put, held_in, left_in, is_listed, holds_at, name_of};
 
 use crate::items::{Items, NoMemory};
 use crate::outside::{BeginFault, Failed, Shelf, Sink};
@@ -107,21 +107,9 @@ impl MemoryShelf {
 }
 
 impl Shelf for MemoryShelf {
-    ghost use Rattle.ride_base.specs.Stored.{HasBegun, IsSureStore, left_in};
+    ghost use Rattle.ride_base.specs.Stored.{store_seen};
 
-    ghost held = { λ s. held_in s.texts };
-
-    ghost left = { left_in };
-
-    ghost IsBegun = { HasBegun };
-
-    ghost names = { λ s. s.names };
-
-    ghost IsSure = { IsSureStore };
-
-    ghost faults = { λ s. s.faults };
-
-    ghost IsQuiet = { Unit {0} };
+    ghost seen = { store_seen };
 
     fn begin(&mut self, name: &str) -> Result<(), BeginFault>
         ensures begun { OnOk result (BeginsText self.old name.now self.new) }
@@ -129,7 +117,7 @@ impl Shelf for MemoryShelf {
         ensures unmade { result ≡ Err BeginFault.NoMemory → self.new ≡ self.old }
         ensures counted { self.old.faults ≤ self.new.faults }
         ensures rose { result ≡ Err BeginFault.Failed → Rose self.old.faults self.new.faults }
-        ensures surely { IsSureStore self.old → result ≡ Err BeginFault.Failed
+        ensures surely { lists_none self.old.failing ≡ true → result ≡ Err BeginFault.Failed
             → held_in self.old.texts name.now ≡ Absent }
     {
         let name = name.as_bytes();
@@ -158,16 +146,16 @@ impl Shelf for MemoryShelf {
     }
 
     fn read(&mut self, piece: &mut [u8]) -> Result<usize, Failed>
-        requires begun { HasBegun self.old }
+        requires begun { is_some self.old.begun ≡ true }
         requires room { 0 < length piece.old }
         ensures exact { ReadsText self.old self.new piece.old piece.new result }
-        ensures shelf { OnlyReadStore self.old self.new }
+        ensures shelf { OnlyRead (store_seen self.old) (store_seen self.new) }
         ensures ok { IfOk result
-            (MovesInto (left_in self.old) (left_in self.new) piece.old piece.new) }
+            (MovesInto (store_seen self.old) (store_seen self.new) piece.old piece.new) }
         ensures err { OnErr result (left_in self.new ≡ left_in self.old) }
         ensures rose { OnErr result (Rose self.old.faults self.new.faults) }
         ensures quiet { OnOk result (self.new.faults ≡ self.old.faults) }
-        ensures surely { IsSureStore self.old → IsOk result }
+        ensures surely { lists_none self.old.failing ≡ true → IsOk result }
     {
         let Some(place) = self.begun else {
             return Ok(0);
@@ -290,11 +278,9 @@ impl MemorySink {
 }
 
 impl Sink for MemorySink {
-    ghost taken = { λ s. Some s.taken };
+    ghost use Rattle.ride_base.specs.Stored.{basin_seen};
 
-    ghost faults = { λ s. s.faults };
-
-    ghost IsQuiet = { Unit {0} };
+    ghost seen = { basin_seen };
 
     fn put(&mut self, piece: &[u8]) -> Result<usize, Failed>
         requires { 0 < length piece.now }

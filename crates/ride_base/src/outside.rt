@@ -1,5 +1,5 @@
-ghost use Rattle.std.specs.Prelude.{◌≡◌, ℕ, List, ◌<◌, ◌≤◌, length, OnOk, OnErr, IfOk, IsOk, Err, Option};
-ghost use Rattle.ride_base.specs.Outside.{Held, Absent, CountRose, CountStays, AddsName, MovesInto, IsAllOf, OnlyRead, Takes, TakesSome, TakesPrefix};
+ghost use Rattle.std.specs.Prelude.{◌≡◌, ◌<◌, ◌≤◌, true, false, length, OnOk, OnErr, IfOk, IsOk, Err};
+ghost use Rattle.ride_base.specs.Outside.{Absent, ShelfState, SinkState, CountRose, CountStays, SinkCountRose, SinkCountStays, AddsName, BeginsAllOf, LeftStays, MovesInto, OnlyRead, Takes, TakesSome, TakesPrefix};
 
 /// A call of the outside world failed.
 #[derive(Clone, Copy, Debug, PartialEq, Eq)]
@@ -16,86 +16,72 @@ pub enum BeginFault {
 
 /// Texts under names, read one at a time in pieces.
 pub trait Shelf {
-    /// What a name holds.
-    ghost held: { Self → List ℕ → Held };
-
-    /// What is left of the text that is begun, where that is told.
-    ghost left: { Self → Option (List ℕ) };
-
-    /// Whether a text is begun.
-    ghost IsBegun: { Self → Type 0 };
-
-    /// The names that `begin` was called with, in order.
-    ghost names: { Self → List (List ℕ) };
-
-    /// Whether it fails only where `begin` is called with a name that it doesn't hold.
-    ghost IsSure: { Self → Type 0 };
-
-    /// How often it failed, up to the last value of its counter.
-    ghost faults: { Self → ℕ };
-
-    /// Whether its count stays at each call that succeeds.
-    ghost IsQuiet: { Type 0 };
+    /// What is seen of it.
+    ghost seen: { Self → ShelfState };
 
     /// Begins the text of a name: all of it is left. After `Failed` no text is begun, and after `NoMemory` nothing has changed.
     fn begin(&mut self, name: &str) -> Result<(), BeginFault>
-        ensures holds { held self.new ≡ held self.old }
-        ensures begun { OnOk result (IsBegun self.new) }
-        ensures all { OnOk result (IsAllOf (held self.old name.now) (left self.new)) }
-        ensures named { IsOk result → AddsName names self.old name.now self.new }
+        ensures holds { (seen self.new).held ≡ (seen self.old).held }
+        ensures begun { OnOk result ((seen self.new).begun ≡ true) }
+        ensures all { OnOk result (BeginsAllOf (seen self.old) name.now (seen self.new)) }
+        ensures named { IsOk result → AddsName (seen self.old) name.now (seen self.new) }
         ensures failed { result ≡ Err BeginFault.Failed
-            → AddsName names self.old name.now self.new }
-        ensures unbegun { result ≡ Err BeginFault.Failed → IsBegun self.new → ⊥ }
+            → AddsName (seen self.old) name.now (seen self.new) }
+        ensures unbegun { result ≡ Err BeginFault.Failed → (seen self.new).begun ≡ false }
         ensures unmade { result ≡ Err BeginFault.NoMemory → self.new ≡ self.old }
-        ensures counted { faults self.old ≤ faults self.new }
-        ensures rose { result ≡ Err BeginFault.Failed → CountRose faults self.old self.new }
-        ensures quiet { IsQuiet → IsOk result → CountStays faults self.old self.new }
-        ensures sure { IsSure self.old → IsSure self.new }
-        ensures surely { IsSure self.old → result ≡ Err BeginFault.Failed
-            → held self.old name.now ≡ Absent }
-        ensures silent { IsSure self.old → IsOk result → CountStays faults self.old self.new };
+        ensures counted { (seen self.old).faults ≤ (seen self.new).faults }
+        ensures rose { result ≡ Err BeginFault.Failed → CountRose (seen self.old) (seen self.new) }
+        ensures quiet { (seen self.old).quiet ≡ true → IsOk result
+            → CountStays (seen self.old) (seen self.new) }
+        ensures as_quiet { (seen self.new).quiet ≡ (seen self.old).quiet }
+        ensures sure { (seen self.old).sure ≡ true → (seen self.new).sure ≡ true }
+        ensures surely { (seen self.old).sure ≡ true → result ≡ Err BeginFault.Failed
+            → (seen self.old).held name.now ≡ Absent }
+        ensures silent { (seen self.old).sure ≡ true → IsOk result
+            → CountStays (seen self.old) (seen self.new) };
 
     /// Moves the next bytes of the text into the front of the piece, and answers how many: 0 only at the end. After `Failed` as
     /// much is left as before.
     fn read(&mut self, piece: &mut [u8]) -> Result<usize, Failed>
-        requires begun { IsBegun self.old }
+        requires begun { (seen self.old).begun ≡ true }
         requires room { 0 < length piece.old }
-        ensures shelf { OnlyRead IsBegun held names IsSure faults self.old self.new }
-        ensures ok { IfOk result (MovesInto (left self.old) (left self.new) piece.old piece.new) }
-        ensures err { OnErr result (left self.new ≡ left self.old) }
-        ensures rose { OnErr result (CountRose faults self.old self.new) }
-        ensures quiet { IsQuiet → IsOk result → CountStays faults self.old self.new }
-        ensures surely { IsSure self.old → IsOk result };
+        ensures shelf { OnlyRead (seen self.old) (seen self.new) }
+        ensures ok { IfOk result (MovesInto (seen self.old) (seen self.new) piece.old piece.new) }
+        ensures err { OnErr result (LeftStays (seen self.old) (seen self.new)) }
+        ensures rose { OnErr result (CountRose (seen self.old) (seen self.new)) }
+        ensures quiet { (seen self.old).quiet ≡ true → IsOk result
+            → CountStays (seen self.old) (seen self.new) }
+        ensures surely { (seen self.old).sure ≡ true → IsOk result };
 }
 
 /// Takes bytes.
 pub trait Sink {
-    /// What was taken, where that is told.
-    ghost taken: { Self → Option (List ℕ) };
-
-    /// How often it failed, up to the last value of its counter.
-    ghost faults: { Self → ℕ };
-
-    /// Whether its count stays at each call that succeeds.
-    ghost IsQuiet: { Type 0 };
+    /// What is seen of it.
+    ghost seen: { Self → SinkState };
 
     /// Takes the first bytes of the piece, and answers how many: 1 or more. After `Failed` it has taken none.
     fn put(&mut self, piece: &[u8]) -> Result<usize, Failed>
         requires { 0 < length piece.now }
-        ensures ok { IfOk result (TakesSome (taken self.old) (taken self.new) piece.now) }
-        ensures err { OnErr result (taken self.new ≡ taken self.old) }
-        ensures counted { faults self.old ≤ faults self.new }
-        ensures rose { OnErr result (CountRose faults self.old self.new) }
-        ensures quiet { IsQuiet → IsOk result → CountStays faults self.old self.new };
+        ensures ok { IfOk result
+            (TakesSome (seen self.old).taken (seen self.new).taken piece.now) }
+        ensures err { OnErr result ((seen self.new).taken ≡ (seen self.old).taken) }
+        ensures counted { (seen self.old).faults ≤ (seen self.new).faults }
+        ensures rose { OnErr result (SinkCountRose (seen self.old) (seen self.new)) }
+        ensures quiet { (seen self.old).quiet ≡ true → IsOk result
+            → SinkCountStays (seen self.old) (seen self.new) }
+        ensures as_quiet { (seen self.new).quiet ≡ (seen self.old).quiet };
 }
 
 /// Writes all the bytes. After `Failed` the sink has taken a prefix of them.
 pub fn write_whole<K: Sink>(sink: &mut K, bytes: &[u8]) -> Result<(), Failed>
-    ensures ok { OnOk result (Takes (K.taken sink.old) (K.taken sink.new) bytes.now) }
-    ensures err { OnErr result (TakesPrefix (K.taken sink.old) (K.taken sink.new) bytes.now) }
-    ensures counted { K.faults sink.old ≤ K.faults sink.new }
-    ensures rose { OnErr result (CountRose K.faults sink.old sink.new) }
-    ensures quiet { K.IsQuiet → IsOk result → CountStays K.faults sink.old sink.new }
+    ensures ok { OnOk result (Takes (K.seen sink.old).taken (K.seen sink.new).taken bytes.now) }
+    ensures err { OnErr result
+        (TakesPrefix (K.seen sink.old).taken (K.seen sink.new).taken bytes.now) }
+    ensures counted { (K.seen sink.old).faults ≤ (K.seen sink.new).faults }
+    ensures rose { OnErr result (SinkCountRose (K.seen sink.old) (K.seen sink.new)) }
+    ensures quiet { (K.seen sink.old).quiet ≡ true → IsOk result
+        → SinkCountStays (K.seen sink.old) (K.seen sink.new) }
+    ensures as_quiet { (K.seen sink.new).quiet ≡ (K.seen sink.old).quiet }
 {
     let mut done = 0;
     while done < bytes.len() {

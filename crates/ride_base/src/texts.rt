@@ -1,4 +1,4 @@
-ghost use Rattle.std.specs.Prelude.{◌≡◌, ◌≢◌, ℕ, ◌+◌, ◌<◌, ◌≤◌, List, length, IfOk, Err};
+ghost use Rattle.std.specs.Prelude.{◌≡◌, ◌≢◌, ℕ, true, ◌+◌, ◌<◌, ◌≤◌, List, length, IfOk, Err};
 ghost use Rattle.ride_base.specs.Outside.{CountRose, CountStays, OnlyRead};
 ghost use Rattle.ride_base.specs.Buffers.{CameAtMost};
 ghost use Rattle.ride_base.specs.Reader.{longest_read};
@@ -12,16 +12,17 @@ use std::alloc::Global;
 
 /// The rest of the text that is begun, of at most so many bytes. After an error some of it may be lost. `Long` never comes.
 pub fn whole<S: Shelf>(alloc: Global, shelf: &mut S, limit: u64) -> Result<Items<u8>, LineFault>
-    requires { S.IsBegun shelf.old }
-    ensures tells { TellsWhole (S.left shelf.old) limit result (S.left shelf.new) }
-    ensures near { CameAtMost (limit + longest_read) (S.left shelf.old) (S.left shelf.new) }
+    requires { (S.seen shelf.old).begun ≡ true }
+    ensures tells { TellsWhole (S.seen shelf.old).left limit result (S.seen shelf.new).left }
+    ensures near { CameAtMost (limit + longest_read)
+        (S.seen shelf.old).left (S.seen shelf.new).left }
     ensures short { IfOk result (λ text. length text ≤ limit) }
-    ensures rose { result ≡ Err LineFault.Fault → CountRose S.faults shelf.old shelf.new }
-    ensures quiet { S.IsQuiet → result ≢ Err LineFault.Fault
-        → CountStays S.faults shelf.old shelf.new }
-    ensures surely { S.IsSure shelf.old → result ≡ Err LineFault.Fault → ⊥ }
+    ensures rose { result ≡ Err LineFault.Fault → CountRose (S.seen shelf.old) (S.seen shelf.new) }
+    ensures quiet { (S.seen shelf.old).quiet ≡ true → result ≢ Err LineFault.Fault
+        → CountStays (S.seen shelf.old) (S.seen shelf.new) }
+    ensures surely { (S.seen shelf.old).sure ≡ true → result ≡ Err LineFault.Fault → ⊥ }
     ensures unlined { result ≡ Err LineFault.Long → ⊥ }
-    ensures shelf { OnlyRead S.IsBegun S.held S.names S.IsSure S.faults shelf.old shelf.new }
+    ensures shelf { OnlyRead (S.seen shelf.old) (S.seen shelf.new) }
 {
     let mut text = Vec::new(alloc);
     loop {

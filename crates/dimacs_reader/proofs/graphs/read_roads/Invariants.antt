@@ -11,12 +11,12 @@ abbrev pub invariant-loop-roads : goal.invariant-loop-roads
 invariant-loop-roads g l =
     let S = g.S.Shelf in
     record {
-      shelf : OnlyRead S.IsBegun S.held S.names S.IsSure S.faults l.fn.shelf l.shelf;
-      quiet : S.IsQuiet → CountStays S.faults l.fn.shelf l.shelf;
-      same : roads_said l.said.nodes l.said.roads l.roads l.lines.given (ahead l.lines (S.left l.shelf)) ≡ said_roads l.said l.fn.lines (S.left l.fn.shelf);
+      shelf : OnlyRead (S.seen l.fn.shelf) (S.seen l.shelf);
+      quiet : (S.seen l.fn.shelf).quiet ≡ true → CountStays (S.seen l.fn.shelf) (S.seen l.shelf);
+      same : roads_said l.said.nodes l.said.roads l.roads l.lines.given (ahead l.lines (S.seen l.shelf).left) ≡ said_roads l.said l.fn.lines (S.seen l.fn.shelf).left;
       few : length l.roads ≤ l.said.roads;
       within : list_all (is_within l.said.nodes) l.roads ≡ true;
-      goes : StaysReadFrom S.left l.fn.lines l.fn.shelf l.lines l.shelf;
+      goes : StaysReadFrom l.fn.lines (S.seen l.fn.shelf) l.lines (S.seen l.shelf);
       unstopped : l.lines.stopped ≡ None;
     }
 

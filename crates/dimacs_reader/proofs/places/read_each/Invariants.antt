@@ -1,4 +1,4 @@
-use Rattle.std.proofs.Common.{◌≡◌, ◌≤◌, [], List, None}
+use Rattle.std.proofs.Common.{◌≡◌, true, ◌≤◌, [], List, None}
 use Rattle.ride_base.specs.Outside.{CountStays, OnlyRead}
 use Rattle.ride_base.specs.Told.{ahead}
 use Rattle.dimacs_reader.specs.Places.{Placed}
@@ -11,13 +11,13 @@ abbrev pub invariant-loop-coordinates : goal.invariant-loop-coordinates
 invariant-loop-coordinates g l =
     let S = g.S.Shelf in
     record {
-      shelf : OnlyRead S.IsBegun S.held S.names S.IsSure S.faults l.fn.shelf l.shelf;
-      quiet : S.IsQuiet → CountStays S.faults l.fn.shelf l.shelf;
+      shelf : OnlyRead (S.seen l.fn.shelf) (S.seen l.shelf);
+      quiet : (S.seen l.fn.shelf).quiet ≡ true → CountStays (S.seen l.fn.shelf) (S.seen l.shelf);
       done : List Placed;
       kept : HoldsPlaces l.nodes done l.coordinates;
-      same : places_said l.nodes done l.lines.given (ahead l.lines (S.left l.shelf)) ≡ placed_ahead l.nodes [] l.fn.lines (S.left l.fn.shelf);
+      same : places_said l.nodes done l.lines.given (ahead l.lines (S.seen l.shelf).left) ≡ placed_ahead l.nodes [] l.fn.lines (S.seen l.fn.shelf).left;
       few : l.coordinates.count ≤ l.nodes;
-      goes : StaysReadFrom S.left l.fn.lines l.fn.shelf l.lines l.shelf;
+      goes : StaysReadFrom l.fn.lines (S.seen l.fn.shelf) l.lines (S.seen l.shelf);
       unstopped : l.lines.stopped ≡ None;
     }
 

@@ -1,4 +1,4 @@
-use Rattle.std.proofs.Common.{◌≡◌, None}
+use Rattle.std.proofs.Common.{◌≡◌, true, None}
 use Rattle.ride_base.specs.Outside.{CountStays, OnlyRead}
 use Rattle.dimacs_reader.specs.Calls.{StaysReadFrom}
 use Rattle.dimacs_reader.specs.Reading.{places_ahead}
@@ -8,10 +8,10 @@ abbrev pub invariant-loop-line : goal.invariant-loop-line
 invariant-loop-line g l =
     let S = g.S.Shelf in
     record {
-      shelf : OnlyRead S.IsBegun S.held S.names S.IsSure S.faults l.fn.shelf l.shelf;
-      quiet : S.IsQuiet → CountStays S.faults l.fn.shelf l.shelf;
-      same : places_ahead l.nodes l.lines (S.left l.shelf) ≡ places_ahead l.nodes l.fn.lines (S.left l.fn.shelf);
-      goes : StaysReadFrom S.left l.fn.lines l.fn.shelf l.lines l.shelf;
+      shelf : OnlyRead (S.seen l.fn.shelf) (S.seen l.shelf);
+      quiet : (S.seen l.fn.shelf).quiet ≡ true → CountStays (S.seen l.fn.shelf) (S.seen l.shelf);
+      same : places_ahead l.nodes l.lines (S.seen l.shelf).left ≡ places_ahead l.nodes l.fn.lines (S.seen l.fn.shelf).left;
+      goes : StaysReadFrom l.fn.lines (S.seen l.fn.shelf) l.lines (S.seen l.shelf);
       unstopped : l.lines.stopped ≡ None;
     }
 

@@ -1,4 +1,4 @@
-use Rattle.std.proofs.Common.{◌≡◌, ◌+◌, ◌-◌, ◌≤◌, length}
+use Rattle.std.proofs.Common.{◌≡◌, true, ◌+◌, ◌-◌, ◌≤◌, length}
 use Rattle.ride_base.specs.Buffers.{with_read}
 use Rattle.ride_base.specs.Outside.{CountStays, OnlyRead}
 use Rattle.ride_base.proofs.texts.whole.Given as goal
@@ -7,9 +7,9 @@ abbrev pub invariant-loop-text : goal.invariant-loop-text
 invariant-loop-text g l =
     let S = g.S.Shelf in
     record {
-      shelf : OnlyRead S.IsBegun S.held S.names S.IsSure S.faults l.fn.shelf l.shelf;
-      quiet : S.IsQuiet → CountStays S.faults l.fn.shelf l.shelf;
-      text : with_read l.text.items (S.left l.shelf) ≡ S.left l.fn.shelf;
+      shelf : OnlyRead (S.seen l.fn.shelf) (S.seen l.shelf);
+      quiet : (S.seen l.fn.shelf).quiet ≡ true → CountStays (S.seen l.fn.shelf) (S.seen l.shelf);
+      text : with_read l.text.items (S.seen l.shelf).left ≡ (S.seen l.fn.shelf).left;
       short : length l.text.items ≤ l.limit;
     }
 

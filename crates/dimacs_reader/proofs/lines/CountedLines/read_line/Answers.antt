@@ -6,13 +6,13 @@ pub returns-in-Ok-clause-gives : goal.returns-in-Ok-clause-gives
 returns-in-Ok-clause-gives g c =
     let unstopped = rw (← c.self.view_is) at c.requires.unstopped in
     rw (← c.self.view_is) (gives _ c.self.inside.lines c.read_line.new.self _ _ (Ok c.in-Ok.read) c.read_line.new.line (c.in-Ok.ensures.tells unstopped) c.in-Ok.ensures.over
-    (λ over. let e = c.in-Ok.ensures.ended unstopped over in (e.0, e.1, ap g.S.Shelf.left e.2)))
+    (λ over. let e = c.in-Ok.ensures.ended unstopped over in (e.0, e.1, ap (λ s. (g.S.Shelf.seen s).left) e.2)))
 
 pub returns-in-Err-clause-gives : goal.returns-in-Err-clause-gives
 returns-in-Err-clause-gives g c =
     let unstopped = rw (← c.self.view_is) at c.requires.unstopped in
     rw (← c.self.view_is, c.fault_at.ensures, c.next_number.ensures, c.in-Err.ensures.counts.0) (gives _ c.self.inside.lines c.read_line.new.self _ _ (Err c.in-Err.fault) c.read_line.new.line (c.in-Err.ensures.tells unstopped) c.in-Err.ensures.over
-    (λ over. let e = c.in-Err.ensures.ended unstopped over in (e.0, e.1, ap g.S.Shelf.left e.2)))
+    (λ over. let e = c.in-Err.ensures.ended unstopped over in (e.0, e.1, ap (λ s. (g.S.Shelf.seen s).left) e.2)))
 
 pub returns-in-Ok-clause-goes : goal.returns-in-Ok-clause-goes
 returns-in-Ok-clause-goes g c =

@@ -8,7 +8,7 @@ pub loop-at-preserved : goal.loop-at-preserved
 loop-at-preserved g c =
     let S = g.S.Shelf in
     let none : position is_line_end c.find.new.self ≡ None = search rules in
-    let unread : with_read c.find.new.self (S.left c.loop-at.shelf) ≡ with_read c.args.self.now (S.left c.args.shelf.now) = search rules in
+    let unread : with_read c.find.new.self (S.seen c.loop-at.shelf).left ≡ with_read c.args.self.now (S.seen c.args.shelf.now).left = search rules in
     record {
       shelf = search rules;
       held = search rules;

@@ -1,4 +1,4 @@
-use Rattle.std.proofs.Common.{◌≡◌, ◌+◌, ◌-◌, ◌≤◌, length, position}
+use Rattle.std.proofs.Common.{◌≡◌, true, ◌+◌, ◌-◌, ◌≤◌, length, position}
 use Rattle.std.specs.Prelude.{IsSome}
 use Rattle.ride_base.specs.Buffers.{with_read, IsWithinARead}
 use Rattle.ride_base.specs.Outside.{CountStays, OnlyRead}
@@ -10,11 +10,11 @@ abbrev pub invariant-loop-at : goal.invariant-loop-at
 invariant-loop-at g l =
     let S = g.S.Shelf in
     record {
-      shelf : OnlyRead S.IsBegun S.held S.names S.IsSure S.faults l.fn.shelf l.shelf;
-      unread : with_read l.self (S.left l.shelf) ≡ with_read l.fn.self (S.left l.fn.shelf);
+      shelf : OnlyRead (S.seen l.fn.shelf) (S.seen l.shelf);
+      unread : with_read l.self (S.seen l.shelf).left ≡ with_read l.fn.self (S.seen l.fn.shelf).left;
       held : length l.self ≤ most_held;
-      quiet : S.IsQuiet → CountStays S.faults l.fn.shelf l.shelf;
-      near : IsWithinARead l.most l.fn.self (S.left l.fn.shelf) (S.left l.shelf);
+      quiet : (S.seen l.fn.shelf).quiet ≡ true → CountStays (S.seen l.fn.shelf) (S.seen l.shelf);
+      near : IsWithinARead l.most l.fn.self (S.seen l.fn.shelf).left (S.seen l.shelf).left;
       holds : IsSome (position is_line_end l.fn.self) → record { shelf : l.shelf ≡ l.fn.shelf; bytes : l.self ≡ l.fn.self };
     }
 

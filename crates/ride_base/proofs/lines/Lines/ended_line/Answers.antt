@@ -1,5 +1,5 @@
 use Rattle.std.proofs.Common.{refl}
-use Rattle.ride_base.proofs.Tells.{gives_ended, stopped_ended, none_stops}
+use Rattle.ride_base.proofs.TellsLine.{gives_ended, stopped_ended, none_stops}
 use Rattle.ride_base.proofs.lines.Lines.ended_line.Goals as goal
 
 pub returns-in-Some-clause-tells : goal.returns-in-Some-clause-tells

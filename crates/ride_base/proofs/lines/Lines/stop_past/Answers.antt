@@ -1,4 +1,4 @@
-use Rattle.ride_base.proofs.Tells.{stopped_past}
+use Rattle.ride_base.proofs.TellsLine.{stopped_past}
 use Rattle.ride_base.proofs.lines.Lines.stop_past.Goals as goal
 
 pub returns-clause-tells : goal.returns-clause-tells

@@ -11,7 +11,7 @@ use Rattle.std.proofs.lemmas.List.Sums.{passes_at_first}
 use Rattle.ride_base.specs.Buffers.{with_read, limit_at, limit_past, IsAtEnd}
 use Rattle.ride_base.specs.Pieces.{Piece, Whole, TooLong, TooLarge, pieces, pieces_of_parts, pieces_from, after_line, is_ended, is_line_end, longest_line}
 use Rattle.ride_base.specs.Reader.{Limit, Long, Large}
-use Rattle.ride_base.specs.Reading.{Tells, fault_of}
+use Rattle.ride_base.specs.Reading.{TellsLine, fault_of}
 use Rattle.ride_base.specs.Limits.{shown_limit}
 use Rattle.ride_base.specs.declared.lines.Line.{Line}
 use Rattle.ride_base.specs.declared.lines.LineFault.{LineFault}
@@ -87,7 +87,7 @@ unended_last p h = ap is_some h
 
 pub gives_ended : (p : List ℕ) (room : ℕ) (pending' : List ℕ) (room' : ℕ) (left : Option (List ℕ)) (at : ℕ) (line : Line) → position is_line_end p ≡ Some at → limit_at at (at + 1) room ≡ None
     → line.bytes ≡ strip_carriage_return (take at p) → line.ended ≡ true → pending' ≡ drop (at + 1) p → room' ≡ room - (at + 1)
-    → Tells room (with_read p left) (Ok (Some line)) room' (with_read pending' left)
+    → TellsLine room (with_read p left) (Ok (Some line)) room' (with_read pending' left)
 gives_ended p room pending' room' None at line found goes bytes ended rest falls = refl
 gives_ended p room pending' room' (Some left) at line found goes bytes ended rest falls =
     let after : after_line (p ++ left) ≡ drop (at + 1) p ++ left = after_line_at p left at found in (
@@ -101,7 +101,7 @@ gives_ended p room pending' room' (Some left) at line found goes bytes ended res
     )
 
 stops_ended : (p : List ℕ) (room : ℕ) (room' : ℕ) (left : Option (List ℕ)) (at : ℕ) (limit : Limit) → position is_line_end p ≡ Some at → limit_at at (at + 1) room ≡ Some limit
-    → Tells room (with_read p left) (Err (fault_of limit)) room' (with_read p left)
+    → TellsLine room (with_read p left) (Err (fault_of limit)) room' (with_read p left)
 stops_ended p room room' None at limit found stops = refl
 stops_ended p room room' (Some left) at Long found stops =
     (pieces_at room p left at found ∙ ap (λ (s : Option Limit). pieces_at_limit s (strip_carriage_return (take at p)) (pieces (room - (at + 1)) (drop (at + 1) p ++ left))) stops, refl)
@@ -123,7 +123,7 @@ plain n room p h = let e : n + 0 ≡ length p = omega arith in ap (λ (m : ℕ).
 
 pub gives_last : (p : List ℕ) (room n : ℕ) (pending' : List ℕ) (room' : ℕ) (left : Option (List ℕ)) (line : Line) → IsAtEnd left → n ≡ length p → (n ≡ 0 → ⊥) → position is_line_end p ≡ None
     → limit_at n (n + 0) room ≡ None → line.bytes ≡ p → line.ended ≡ false → pending' ≡ []
-    → Tells room (with_read p left) (Ok (Some line)) room' (with_read pending' left)
+    → TellsLine room (with_read p left) (Ok (Some line)) room' (with_read pending' left)
 gives_last p room n pending' room' None line end size some none goes bytes ended rest = refl
 gives_last p room n pending' room' (Some left) line end size some none goes bytes ended rest =
     let text : p ++ left ≡ p = ap (λ (x : List ℕ). p ++ x) end ∙ append-nil p in
@@ -137,7 +137,7 @@ gives_last p room n pending' room' (Some left) line end size some none goes byte
 
 stops_last : (p : List ℕ) (room : ℕ) (room' : ℕ) (left : Option (List ℕ)) (limit : Limit) → IsAtEnd left → 0 < length p → position is_line_end p ≡ None
     → limit_at (length p) (length p) room ≡ Some limit
-    → Tells room (with_read p left) (Err (fault_of limit)) room' (with_read p left)
+    → TellsLine room (with_read p left) (Err (fault_of limit)) room' (with_read p left)
 stops_last p room room' None limit end some none stops = refl
 stops_last p room room' (Some left) Long end some none stops =
     (ap (λ (x : List ℕ). pieces room (p ++ x)) end ∙ ap (pieces room) (append-nil p) ∙ pieces_last room p some none ∙ ap (λ (s : Option Limit). pieces_at_limit s p []) stops, refl)
@@ -203,31 +203,31 @@ past_piece room p left none past =
     let b = first_part_of p left (unended p none) in
     ap (pieces_of_parts room) b.is ∙ pieces_past room (p ++ b.first) b.more (omega (arith, length-append p b.first))
 
-past_step : (limit : Limit) (room room' : ℕ) (text : List ℕ) → pieces room text ≡ limit_piece limit → Tells room (Some text) (Err (fault_of limit)) room' (Some text)
+past_step : (limit : Limit) (room room' : ℕ) (text : List ℕ) → pieces room text ≡ limit_piece limit → TellsLine room (Some text) (Err (fault_of limit)) room' (Some text)
 past_step Long room room' text h = (h, refl)
 past_step Large room room' text h = (h, refl)
 
 past_told : (p : List ℕ) (room : ℕ) (limit : Limit) (room' : ℕ) (left : Option (List ℕ)) → position is_line_end p ≡ None → min room longest_line < length p → limit ≡ limit_past room
-    → Tells room (with_read p left) (Err (fault_of limit)) room' (with_read p left)
+    → TellsLine room (with_read p left) (Err (fault_of limit)) room' (with_read p left)
 past_told p room limit room' None none past is = refl
 past_told p room limit room' (Some left) none past is = past_step limit room room' (p ++ left) (past_piece room p left none past ∙ ap limit_piece (sym is))
 
 -- The same, as the code tells them.
 pub stopped_ended : (p : List ℕ) (room : ℕ) (room' : ℕ) (left : Option (List ℕ)) (at : ℕ) (limit : CodeLimit) (error : LineFault) → position is_line_end p ≡ Some at
     → shown_limit (Some limit) ≡ limit_at at (at + 1) room → IfSome (shown_limit (Some limit)) (λ s. error ≡ fault_of s)
-    → Tells room (with_read p left) (Err error) room' (with_read p left)
+    → TellsLine room (with_read p left) (Err error) room' (with_read p left)
 stopped_ended p room room' left at CodeLong error found stops is = rw is (stops_ended p room room' left at Long found (sym stops))
 stopped_ended p room room' left at CodeLarge error found stops is = rw is (stops_ended p room room' left at Large found (sym stops))
 
 pub stopped_last : (p : List ℕ) (room n room' : ℕ) (left : Option (List ℕ)) (limit : CodeLimit) (error : LineFault) → IsAtEnd left → n ≡ length p → (n ≡ 0 → ⊥) → position is_line_end p ≡ None
     → shown_limit (Some limit) ≡ limit_at n (n + 0) room → IfSome (shown_limit (Some limit)) (λ s. error ≡ fault_of s)
-    → Tells room (with_read p left) (Err error) room' (with_read p left)
+    → TellsLine room (with_read p left) (Err error) room' (with_read p left)
 stopped_last p room n room' left CodeLong error end size some none stops is = rw is (stops_last p room room' left Long end (grind arith) none (sym (stops ∙ plain n room p size)))
 stopped_last p room n room' left CodeLarge error end size some none stops is = rw is (stops_last p room room' left Large end (grind arith) none (sym (stops ∙ plain n room p size)))
 
 pub stopped_past : (p : List ℕ) (room : ℕ) (room' : ℕ) (left : Option (List ℕ)) (limit : CodeLimit) (error : LineFault) → position is_line_end p ≡ None → min room longest_line < length p
     → shown_limit (Some limit) ≡ Some (limit_past room) → IfSome (shown_limit (Some limit)) (λ s. error ≡ fault_of s)
-    → Tells room (with_read p left) (Err error) room' (with_read p left)
+    → TellsLine room (with_read p left) (Err error) room' (with_read p left)
 stopped_past p room room' left CodeLong error none past stops is = rw is (past_told p room Long room' left none past cc)
 stopped_past p room room' left CodeLarge error none past stops is = rw is (past_told p room Large room' left none past cc)
 
