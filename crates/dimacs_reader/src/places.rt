@@ -131,7 +131,7 @@ fn read_each<S: Shelf>(
     requires unstopped { lines.old.stopped ≡ None }
     ensures places { IfOk result
         (λ v. AreSaidPlaces nodes
-            (placed_ahead nodes [] lines.old (S.seen shelf.old).left) v.items) }
+        (placed_ahead nodes [] lines.old (S.seen shelf.old).left) v.items) }
     ensures all { IfOk result (λ v. length v.items ≡ nodes) }
     ensures refused { Refuses (placed_ahead nodes [] lines.old (S.seen shelf.old).left) result }
     ensures unread { result ≡ Err GraphFault.Fault
