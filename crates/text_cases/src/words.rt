@@ -191,15 +191,18 @@ fn refused_ranges(rt: HostRuntime) -> Result<(), Fail> {
 /// Lines of `audit`, with the numbers of their parameters.
 const RATES: &[(&str, [u64; 7])] = &[
     (
-        "audit --stop 1 --wait 2 --trip-num 48 --trip-den 3 --trip-add 5 --wait-weight 6 --trip-weight 7 g f j",
+        "audit --stop 1 --wait 2 --trip-num 48 --trip-den 3 --trip-add 5 \
+         --wait-weight 6 --trip-weight 7 g f j",
         [1, 2, 48, 3, 5, 6, 7],
     ),
     (
-        "audit --stop 0 --wait 0 --trip-num 0 --trip-den 1 --trip-add 0 --wait-weight 0 --trip-weight 0 g f j",
+        "audit --stop 0 --wait 0 --trip-num 0 --trip-den 1 --trip-add 0 \
+         --wait-weight 0 --trip-weight 0 g f j",
         [0, 0, 0, 1, 0, 0, 0],
     ),
     (
-        "audit --wait 65536 --trip-num=65536 --trip-den=65536 --trip-add 65536 --wait-weight 65536 --trip-weight=65536 g f j",
+        "audit --wait 65536 --trip-num=65536 --trip-den=65536 --trip-add 65536 \
+         --wait-weight 65536 --trip-weight=65536 g f j",
         [2, 65536, 65536, 65536, 65536, 65536, 65536],
     ),
 ];
