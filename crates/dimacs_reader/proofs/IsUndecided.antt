@@ -1,7 +1,8 @@
-use Rattle.std.proofs.Common.{◌≡◌, ℕ, ◌+◌, ◌<◌, ◌≤◌, Bool, true, false, cond, List, [], ◌∷◌, ◌++◌, length, Option, Some, None, Result, Ok, Err, sym, ap, subst, ◌∙◌, arith}
-use Rattle.std.specs.Prelude.{◌==◌, ◌&&◌, nat_le, not, IsErr, IsErrAnd}
+use Rattle.std.proofs.Common.{◌≡◌, ℕ, ◌+◌, ◌<◌, ◌≤◌, Bool, true, false, cond, List, [], ◌∷◌, ◌++◌, length, Option, Some, None, Result, Ok, Err, inl, sym, ap, subst, ◌∙◌, arith}
+use Rattle.std.specs.Prelude.{◌==◌, ◌&&◌, ◌⊎◌, nat_le, not, IfErr, IsErr, IsErrAnd}
 use Rattle.std.specs.Option.{option_map}
 use Rattle.ride_base.specs.Pieces.{Piece, Whole, TooLong, TooLarge, pieces, ended_lines, largest_text}
+use Rattle.ride_base.specs.Prefixes.{IsReadNear}
 use Rattle.ride_base.specs.Reader.{Reader, new_reader}
 use Rattle.ride_base.specs.Told.{WhereTold, ahead}
 use Rattle.road_graph.specs.declared.road.Road.{Road}
@@ -12,7 +13,7 @@ use Rattle.dimacs_reader.specs.declared.faults.GraphFault.TheVariants.{Fault, Co
 use Rattle.dimacs_reader.specs.Forms.{GraphLine, Skipped, Problem, Arc, Formless, graph_line, PlaceLine, Header, Place, place_line}
 use Rattle.dimacs_reader.specs.Graphs.{largest_weight, graph_in, first_line, roads_in, arc_line, road_and, map_ok, onto, over_nodes}
 use Rattle.dimacs_reader.specs.Places.{Placed, is_coordinate, stood_before, place_and, later_line, places_behind, opening_line, places_in}
-use Rattle.dimacs_reader.specs.Refusals.{IsReadBehind, IsReadFrom, IsUndecided, refused_line}
+use Rattle.dimacs_reader.specs.Refusals.{IsReadBehind, IsReadFrom, IsUndecided, IsUnfinished, StandsBehind, refused_line}
 use Rattle.dimacs_reader.proofs.AllOnto.{all_onto}
 
 -- A refusal names none of the lines before those that it is about.
@@ -83,7 +84,7 @@ late_later nodes line before (Place n x y) skipped another hp ha =
     (same_line line))
 late_later nodes line before Formless skipped another hp ha = same_line line
 
-late_behind : (nodes line : ℕ) (before : List Placed) (ps : List Piece) → IsLate line (places_behind nodes line before ps)
+pub late_behind : (nodes line : ℕ) (before : List Placed) (ps : List Piece) → IsLate line (places_behind nodes line before ps)
 late_behind nodes line before [] = late_cond (length before == nodes) line (Ok []) (Err (Count line nodes (length before))) tt (same_line line)
 late_behind nodes line before (Whole bytes ∷ more) =
     late_later nodes line before (place_line bytes) (places_behind nodes (line + 1) before more) (λ place. places_behind nodes (line + 1) (before ++ place ∷ []) more)
@@ -145,14 +146,90 @@ over_unread nodes roads start text left e u = subst (λ (o : Option (Result Road
     on None u = tt
     on (Some x) u = (u.0, λ fault e. u.1 fault (fault_of x fault e))
 
+-- what roads are refused for is what their graph is refused for
+pub over_refused : (nodes : ℕ) (e : GraphFault) (roads : Option (Result (List Road) GraphFault)) (start : Option (Result Roads GraphFault)) → start ≡ option_map (over_nodes nodes) roads → WhereTold roads (λ answer. answer ≡ Err e) → WhereTold start (λ said. said ≡ Err e)
+over_refused nodes e roads start is refused = subst (λ (o : Option (Result Roads GraphFault)). WhereTold o (λ said. said ≡ Err e)) (sym is) (on roads refused)
+  where
+    on : (roads : Option (Result (List Road) GraphFault)) → WhereTold roads (λ answer. answer ≡ Err e) → WhereTold (option_map (over_nodes nodes) roads) (λ said. said ≡ Err e)
+    on None r = tt
+    on (Some x) r = ap (over_nodes nodes) r
+
 -- what is said of all that is ahead of a reader that has given nothing is said of the text
+pub whole_is : {X : Type 0} (Fact : List ℕ → Result X GraphFault → Type 0) (says : ℕ → List Piece → Result X GraphFault) (reader : Reader) (old : Option (List ℕ)) → reader ≡ new_reader largest_text
+    → ((text : List ℕ) → IsReadFrom text reader (Some text)) → ((text : List ℕ) → IsReadFrom text reader old → WhereTold (option_map (says (reader.given + 1)) (ahead reader old)) (Fact text))
+    → WhereTold old (λ text. Fact text (says 1 (pieces largest_text text)))
+whole_is Fact says reader None e none fact = tt
+whole_is Fact says reader (Some text) e none fact = subst (λ (r : Reader). WhereTold (option_map (says (r.given + 1)) (ahead r (Some text))) (Fact text)) e (fact text (none text))
+
 pub whole_unread : {X : Type 0} (says : ℕ → List Piece → Result X GraphFault) (reader : Reader) (old left : Option (List ℕ)) → reader ≡ new_reader largest_text
     → ((text : List ℕ) → IsReadFrom text reader (Some text)) → ((text : List ℕ) → IsReadFrom text reader old → WhereTold (option_map (says (reader.given + 1)) (ahead reader old)) (λ said. IsUndecided said text left))
     → WhereTold old (λ text. IsUndecided (says 1 (pieces largest_text text)) text left)
-whole_unread says reader None left e none unread = tt
-whole_unread says reader (Some text) left e none unread = subst (λ (r : Reader). WhereTold (option_map (says (r.given + 1)) (ahead r (Some text))) (λ said. IsUndecided said text left)) e (unread text (none text))
+whole_unread says reader old left e none unread = whole_is (λ text said. IsUndecided said text left) says reader old e none unread
 
--- an error that was handed on
-pub handed : {T U : Type 0} (result : Result T GraphFault) (answer : Result U GraphFault) (e : GraphFault) → IsErr result × IsErrAnd result (λ x. x ≡ e) → answer ≡ Err e → result ≡ Err Fault → answer ≡ Err Fault
+-- ---- want of memory
+
+unfinished : {X : Type 0} (said : Result X GraphFault) (text : List ℕ) (left : Option (List ℕ)) (given : ℕ) → IsReadNear given largest_text text left ⊎ StandsBehind text left given → IsLate (given + 1) said → IsUnfinished said text left
+unfinished {X = X} said text left given stands late = record { given = given; late = λ fault e. on fault (subst (IsLate {X = X} (given + 1)) e late); stands = stands }
+  where
+    on : (fault : GraphFault) → given + 1 ≤ refused_line fault → given < refused_line fault
+    on fault h = omega (arith, h)
+
+-- no line that was given refuses what is ahead
+pub ahead_unfinished : {X : Type 0} (says : ℕ → List Piece → Result X GraphFault) → ((line : ℕ) (ps : List Piece) → IsLate line (says line ps))
+    → (given : ℕ) (ps : Option (List Piece)) (start : Option (Result X GraphFault)) (text : List ℕ) (left : Option (List ℕ)) → option_map (says (given + 1)) ps ≡ start
+    → IsReadNear given largest_text text left ⊎ StandsBehind text left given → WhereTold start (λ said. IsUnfinished said text left)
+ahead_unfinished {X = X} says late given ps start text left e stands = subst (λ (o : Option (Result X GraphFault)). WhereTold o (λ said. IsUnfinished said text left)) e (on ps)
+  where
+    on : (ps : Option (List Piece)) → WhereTold (option_map (says (given + 1)) ps) (λ said. IsUnfinished said text left)
+    on None = tt
+    on (Some ps) = unfinished (says (given + 1) ps) text left given stands (late (given + 1) ps)
+
+pub over_unfinished : (nodes : ℕ) (roads : Option (Result (List Road) GraphFault)) (start : Option (Result Roads GraphFault)) (text : List ℕ) (left : Option (List ℕ)) → start ≡ option_map (over_nodes nodes) roads
+    → WhereTold roads (λ answer. IsUnfinished answer text left) → WhereTold start (λ said. IsUnfinished said text left)
+over_unfinished nodes roads start text left e u = subst (λ (o : Option (Result Roads GraphFault)). WhereTold o (λ said. IsUnfinished said text left)) (sym e) (on roads u)
+  where
+    fault_of : (x : Result (List Road) GraphFault) (fault : GraphFault) → over_nodes nodes x ≡ Err fault → x ≡ Err fault
+    fault_of (Ok x) f e = cc
+    fault_of (Err error) f e = cc
+
+    on : (roads : Option (Result (List Road) GraphFault)) → WhereTold roads (λ answer. IsUnfinished answer text left) → WhereTold (option_map (over_nodes nodes) roads) (λ said. IsUnfinished said text left)
+    on None u = tt
+    on (Some x) u = record { given = u.given; late = λ fault e. u.late fault (fault_of x fault e); stands = u.stands }
+
+-- nothing that is said refuses a text whose roads are said
+pub good_unfinished : (nodes given : ℕ) (roads : Option (Result (List Road) GraphFault)) (start : Option (Result Roads GraphFault)) (found : List Road) (text : List ℕ) (left : Option (List ℕ)) → start ≡ option_map (over_nodes nodes) roads
+    → WhereTold roads (λ answer. answer ≡ Ok found) → IsReadNear given largest_text text left → WhereTold start (λ said. IsUnfinished said text left)
+good_unfinished nodes given roads start found text left e said near = over_unfinished nodes roads start text left e (on roads said)
+  where
+    on : (roads : Option (Result (List Road) GraphFault)) → WhereTold roads (λ answer. answer ≡ Ok found) → WhereTold roads (λ answer. IsUnfinished answer text left)
+    on None s = tt
+    on (Some x) s = record { given = given; late = λ fault f. let no_fault : ◌≡◌ {A = Result (List Road) GraphFault} (Ok found) (Err fault) = sym s ∙ f in cc; stands = inl near }
+
+pub whole_unfinished : {X : Type 0} (says : ℕ → List Piece → Result X GraphFault) (reader : Reader) (old left : Option (List ℕ)) → reader ≡ new_reader largest_text
+    → ((text : List ℕ) → IsReadFrom text reader (Some text)) → ((text : List ℕ) → IsReadFrom text reader old → WhereTold (option_map (says (reader.given + 1)) (ahead reader old)) (λ said. IsUnfinished said text left))
+    → WhereTold old (λ text. IsUnfinished (says 1 (pieces largest_text text)) text left)
+whole_unfinished says reader old left e none stays = whole_is (λ text said. IsUnfinished said text left) says reader old e none stays
+
+-- ---- how far was read
+
+pub near_line : (n given : ℕ) (text : List ℕ) (left : Option (List ℕ)) → n ≡ given + 1 → IsReadNear (given + 1) largest_text text left → IsReadNear n largest_text text left
+near_line n given text left e near = subst (λ (k : ℕ). IsReadNear k largest_text text left) (sym e) near
+
+-- what is so of each text of which a reader gave exactly the lines that it counted is so of the text, where it has given nothing
+pub whole_near : (reader : Reader) (old : Option (List ℕ)) (Fact : List ℕ → Type 0) → ((text : List ℕ) → IsReadFrom text reader (Some text)) → ((text : List ℕ) → IsReadFrom text reader old → Fact text) → WhereTold old Fact
+whole_near reader None Fact none fact = tt
+whole_near reader (Some text) Fact none fact = fact text (none text)
+
+-- ---- errors that were handed on
+
+pub fault_handed : {T : Type 0} (result : Result T GraphFault) (e : GraphFault) (Fact : GraphFault → Type 0) → IsErr result × IsErrAnd result (λ x. x ≡ e) → Fact e → IfErr result Fact
+fault_handed (Ok t) e Fact h fact = tt
+fault_handed (Err x) e Fact h fact = subst Fact (sym h.1) fact
+
+pub err_map : {T : Type 0} (result : Result T GraphFault) (F G : GraphFault → Type 0) → ((e : GraphFault) → F e → G e) → IfErr result F → IfErr result G
+err_map (Ok t) F G f fact = tt
+err_map (Err e) F G f fact = f e fact
+
+pub handed : {T U : Type 0} {fault : GraphFault} (result : Result T GraphFault) (answer : Result U GraphFault) (e : GraphFault) → IsErr result × IsErrAnd result (λ x. x ≡ e) → answer ≡ Err e → result ≡ Err fault → answer ≡ Err fault
 handed (Ok t) answer e h a f = cc
 handed (Err x) answer e h a f = let same : x ≡ e = h.1 in cc

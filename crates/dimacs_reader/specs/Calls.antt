@@ -2,6 +2,8 @@ use Rattle.std.specs.Prelude.{◌≡◌, ℕ, ℤ, ◌+◌, ◌<◌, ◌^◌, Bo
 use Rattle.std.specs.Option.{option_map, option_to_list}
 use Rattle.ride_base.specs.Fields.{capped}
 use Rattle.ride_base.specs.Outside.{ShelfState}
+use Rattle.ride_base.specs.Pieces.{largest_text}
+use Rattle.ride_base.specs.Prefixes.{IsReadNear}
 use Rattle.ride_base.specs.Reader.{Reader}
 use Rattle.ride_base.specs.Told.{WhereTold, ahead}
 use Rattle.ride_base.specs.declared.lines.Line.{Line}
@@ -9,22 +11,22 @@ use Rattle.road_graph.specs.declared.road.Road.{Road}
 use Rattle.road_graph.specs.Roads.{Roads}
 use Rattle.dimacs_reader.specs.declared.faults.GraphFault.{GraphFault}
 use Rattle.dimacs_reader.specs.declared.forms.Coordinate.{Coordinate as ReadCoordinate}
-use Rattle.dimacs_reader.specs.declared.graphs.Said.{Said}
+use Rattle.dimacs_reader.specs.declared.graphs.SaidCounts.{SaidCounts}
 use Rattle.dimacs_reader.specs.declared.places.Coordinates.{Coordinates}
 use Rattle.dimacs_reader.specs.declared.places.Placing.{Placing}
 use Rattle.dimacs_reader.specs.Forms.{graph_line, place_line}
 use Rattle.dimacs_reader.specs.Graphs.{graph_of, first_line, arc_line, road_and, onto, over_nodes}
 use Rattle.dimacs_reader.specs.Places.{Placed, AreCoordinates, places_of, opening_line, later_line, place_and}
 use Rattle.dimacs_reader.specs.Reading.{GivesLine, IsPlaceTable, by_answer, by_value, graph_ahead, roads_ahead, places_ahead, placed_ahead, placed_by, placed_and, read_coordinate}
-use Rattle.dimacs_reader.specs.Refusals.{IsRefusal, IsUndecided, IsReadFrom, IsReadBehind}
+use Rattle.dimacs_reader.specs.Refusals.{IsRefusal, IsUndecided, IsReadFrom, IsReadBehind, IsUnfinished, StandsBehind, refused_line}
 
 -- What the calls promise. `old` and `shelf` are the reader and what is seen of the shelf before a call, `new` and `shelf'` after it.
 
 -- Calls on the text that is begun.
 
 -- the graph is what the text says, where it is told
-abbrev pub IsGraphOf : Option (List ℕ) → Roads → Type 0
-IsGraphOf text g = WhereTold text (λ told. graph_of told ≡ Ok g)
+abbrev pub IsGraphSaid : Option (List ℕ) → Roads → Type 0
+IsGraphSaid text g = WhereTold text (λ told. graph_of told ≡ Ok g)
 
 -- the coordinates are those that the text says of so many nodes, where it is told
 abbrev pub ArePlacesOf : (nodes : ℕ) → Option (List ℕ) → List (ℤ × ℤ) → Type 0
@@ -37,6 +39,14 @@ RefusesText says text answer = IfErr answer (λ e. IsRefusal e → WhereTold tex
 -- what was read doesn't say by which line the text is refused
 abbrev pub LeavesUndecided : {X : Type 0} → (says : List ℕ → Result X GraphFault) → ShelfState → ShelfState → Type 0
 LeavesUndecided says shelf shelf' = WhereTold shelf.left (λ text. IsUndecided (says text) text shelf'.left)
+
+-- where the text is refused, at most one read past the line that refuses it was read
+abbrev pub RefusesTextNear : {X : Type 0} → ShelfState → Result X GraphFault → ShelfState → Type 0
+RefusesTextNear shelf answer shelf' = IfErr answer (λ e. IsRefusal e → WhereTold shelf.left (λ text. IsReadNear (refused_line e) largest_text text shelf'.left))
+
+-- memory was wanted, and no line that was given refuses the text
+abbrev pub LeavesUnfinished : {X : Type 0} → (says : List ℕ → Result X GraphFault) → ShelfState → ShelfState → Type 0
+LeavesUnfinished says shelf shelf' = WhereTold shelf.left (λ text. IsUnfinished (says text) text shelf'.left)
 
 -- Calls on a reader. What they say is about what is ahead of it.
 
@@ -60,17 +70,39 @@ StaysReadFrom old shelf new shelf' = (text : List ℕ) → IsReadFrom text old s
 abbrev pub HasReadNoMore : Reader → ShelfState → ShelfState → Type 0
 HasReadNoMore old shelf shelf' = (text : List ℕ) → IsReadFrom text old shelf.left → IsReadBehind text shelf'.left old.given
 
+-- of whichever text the reader gave exactly the lines that it counted, at most one read past the next line was read
+abbrev pub ReadsNear : Reader → ShelfState → ShelfState → Type 0
+ReadsNear old shelf shelf' = (text : List ℕ) → IsReadFrom text old shelf.left → IsReadNear (old.given + 1) largest_text text shelf'.left
+
+-- of whichever text the reader gave exactly the lines that it counted, it stands behind them
+abbrev pub StaysBehind : Reader → ShelfState → ShelfState → Type 0
+StaysBehind old shelf shelf' = (text : List ℕ) → IsReadFrom text old shelf.left → StandsBehind text shelf'.left old.given
+
+-- a refusal names the line behind those that were given
+abbrev pub RefusesNext : {X : Type 0} → Reader → Result X GraphFault → Type 0
+RefusesNext old answer = IfErr answer (λ e. IsRefusal e → refused_line e ≡ old.given + 1)
+
+-- of whichever text the reader gave exactly the lines that it counted, at most one read past the line that refuses it was read
+abbrev pub RefusesNear : {X : Type 0} → Reader → ShelfState → Result X GraphFault → ShelfState → Type 0
+RefusesNear old shelf answer shelf' =
+    IfErr answer (λ e. IsRefusal e → (text : List ℕ) → IsReadFrom text old shelf.left → IsReadNear (refused_line e) largest_text text shelf'.left)
+
+-- of whichever text the reader gave exactly the lines that it counted, no line that was given refuses it
+abbrev pub StaysUnfinished : {X : Type 0} → (says : Reader → Option (List ℕ) → Option (Result X GraphFault)) → Reader → ShelfState → ShelfState → Type 0
+StaysUnfinished says old shelf shelf' =
+    (text : List ℕ) → IsReadFrom text old shelf.left → WhereTold (says old shelf.left) (λ said. IsUnfinished said text shelf'.left)
+
 -- of whichever text the reader gave exactly the lines that it counted, what was read doesn't say by which line it is refused
 abbrev pub StaysUndecided : {X : Type 0} → (says : Reader → Option (List ℕ) → Option (Result X GraphFault)) → Reader → ShelfState → ShelfState → Type 0
 StaysUndecided says old shelf shelf' =
     (text : List ℕ) → IsReadFrom text old shelf.left → WhereTold (says old shelf.left) (λ said. IsUndecided said text shelf'.left)
 
 -- the roads ahead, of which the problem line said so many
-abbrev pub said_roads : Said → Reader → Option (List ℕ) → Option (Result (List Road) GraphFault)
+abbrev pub said_roads : SaidCounts → Reader → Option (List ℕ) → Option (Result (List Road) GraphFault)
 said_roads said reader left = roads_ahead said.nodes said.roads 0 reader left
 
 -- what was ahead as a graph is what is ahead as its roads
-abbrev pub IsProblemAhead : Reader → ShelfState → Reader → ShelfState → Said → Type 0
+abbrev pub IsProblemAhead : Reader → ShelfState → Reader → ShelfState → SaidCounts → Type 0
 IsProblemAhead old shelf new shelf' said = graph_ahead old shelf.left ≡ option_map (over_nodes said.nodes) (said_roads said new shelf'.left)
 
 -- what was ahead as places is what is ahead as places behind the header
@@ -84,12 +116,12 @@ AreSaidPlaces nodes said coordinates = WhereTold said (λ answer. (placed : List
 -- Calls on a line that was read. They say what the line says, whatever the lines behind it say.
 
 -- a line before the problem line
-abbrev pub SaysProblem : Line → Result (Option Said) GraphFault → Type 0
+abbrev pub SaysProblem : Line → Result (Option SaidCounts) GraphFault → Type 0
 SaysProblem line answer = (skipped : Result Roads GraphFault) (behind : ℕ → ℕ → Result (List Road) GraphFault)
     → first_line line.number (graph_line line.bytes) skipped behind ≡ by_answer answer skipped (λ said. over_nodes said.nodes (behind said.nodes said.roads))
 
 -- a line behind the problem line, where so many roads were found before it
-abbrev pub SaysArc : Said → (found : ℕ) → Line → Result (Option Road) GraphFault → Type 0
+abbrev pub SaysArc : SaidCounts → (found : ℕ) → Line → Result (Option Road) GraphFault → Type 0
 SaysArc said found line answer = (skipped another : Result (List Road) GraphFault)
     → arc_line said.nodes said.roads found line.number (graph_line line.bytes) skipped another ≡ by_answer answer skipped (λ road. onto road another)
 

@@ -1,7 +1,7 @@
-use Rattle.std.specs.Prelude.{◌≡◌, ℕ, ℤ, ◌+◌, ◌-◌, ◌<◌, ◌≤◌, ◌⊎◌, cond, Bool, true, false, List, [], ◌∷◌, length, Option, Some, None, Result, Ok, Err, slice_get, get_or}
+use Rattle.std.specs.Prelude.{◌≡◌, ℕ, ℤ, ◌+◌, ◌-◌, ◌<◌, ◌≤◌, cond, Bool, true, false, List, [], ◌∷◌, length, Option, Some, None, Result, Ok, Err, slice_get, get_or}
 use Rattle.std.specs.Option.{option_map}
 use Rattle.ride_base.specs.Fields.{capped}
-use Rattle.ride_base.specs.Pieces.{Piece, Whole, TooLong, TooLarge}
+use Rattle.ride_base.specs.Pieces.{Piece, Whole, IsRefused}
 use Rattle.ride_base.specs.Reader.{Reader}
 use Rattle.ride_base.specs.Told.{ahead}
 use Rattle.ride_base.specs.declared.lines.Line.{Line}
@@ -52,10 +52,6 @@ fault_at line LineFaultOfShelf = Fault
 fault_at line Long = Limit line
 fault_at line Large = Limit line
 fault_at line LineNoMemory = NoMemory
-
--- the text is refused before its next line
-abbrev pub IsRefused : List Piece → Type 0
-IsRefused pieces = (pieces ≡ TooLong ∷ []) ⊎ (pieces ≡ TooLarge ∷ [])
 
 -- What the answer for the next line says of the pieces ahead before and after, where so many lines were given before. After an
 -- error nothing is said of what is ahead.

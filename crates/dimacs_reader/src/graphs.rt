@@ -5,10 +5,10 @@ ghost use Rattle.road_graph.specs.Faults.{fault_in};
 ghost use Rattle.road_graph.specs.Graphs.{IsGraph};
 ghost use Rattle.road_graph.specs.Roads.{is_node, is_within, node as node_of};
 ghost use Rattle.road_graph.specs.Limits.{most_nodes, most_roads};
-ghost use Rattle.dimacs_reader.specs.Calls.{IsGraphOf, IsProblemAhead, IsSaid, LeavesUndecided, Refuses, RefusesText, SaysArc, SaysProblem, SaysRoad, StaysReadFrom, StaysUndecided, said_roads};
+ghost use Rattle.dimacs_reader.specs.Calls.{IsGraphSaid, IsProblemAhead, IsSaid, LeavesUndecided, LeavesUnfinished, Refuses, RefusesNear, RefusesText, RefusesTextNear, SaysArc, SaysProblem, SaysRoad, StaysReadFrom, StaysUndecided, StaysUnfinished, said_roads};
 ghost use Rattle.dimacs_reader.specs.Graphs.{graph_of};
 ghost use Rattle.dimacs_reader.specs.Reading.{graph_ahead};
-ghost use Rattle.dimacs_reader.specs.Refusals.{IsRefusal};
+ghost use Rattle.dimacs_reader.specs.Refusals.{IsRefusalAt};
 
 use crate::faults::GraphFault;
 use crate::forms::{GraphLine, graph_line};
@@ -19,7 +19,7 @@ use std::alloc::Global;
 
 /// How many nodes and roads a problem line says.
 #[derive(Clone, Copy, Debug)]
-struct Said {
+struct SaidCounts {
     nodes: u32,
     roads: u32,
 }
@@ -30,10 +30,13 @@ struct Said {
 /// stays begun, and the shelf stands behind what was read of it, which may be more than the line that is told.
 pub fn read_graph<S: Shelf>(alloc: Global, shelf: &mut S) -> Result<Graph, GraphFault>
     requires { (S.seen shelf.old).begun ≡ true }
-    ensures graph { IfOk result (IsGraphOf (S.seen shelf.old).left) }
+    ensures graph { IfOk result (IsGraphSaid (S.seen shelf.old).left) }
     ensures refused { RefusesText graph_of (S.seen shelf.old).left result }
     ensures unread { result ≡ Err GraphFault.Fault
         → LeavesUndecided graph_of (S.seen shelf.old) (S.seen shelf.new) }
+    ensures near { RefusesTextNear (S.seen shelf.old) result (S.seen shelf.new) }
+    ensures wanted { result ≡ Err GraphFault.NoMemory
+        → LeavesUnfinished graph_of (S.seen shelf.old) (S.seen shelf.new) }
     ensures is_graph { IfOk result IsGraph }
     ensures fault { result ≡ Err GraphFault.Fault
         → CountRose (S.seen shelf.old) (S.seen shelf.new) }
@@ -58,7 +61,7 @@ fn read_problem<S: Shelf>(
     lines: &mut CountedLines,
     shelf: &mut S,
     line: &mut Line,
-) -> Result<Said, GraphFault>
+) -> Result<SaidCounts, GraphFault>
     requires begun { (S.seen shelf.old).begun ≡ true }
     requires unstopped { lines.old.stopped ≡ None }
     ensures said { IfOk result
@@ -70,6 +73,9 @@ fn read_problem<S: Shelf>(
         → StaysReadFrom lines.old (S.seen shelf.old) lines.new (S.seen shelf.new) }
     ensures unread { result ≡ Err GraphFault.Fault
         → StaysUndecided graph_ahead lines.old (S.seen shelf.old) (S.seen shelf.new) }
+    ensures near { RefusesNear lines.old (S.seen shelf.old) result (S.seen shelf.new) }
+    ensures wanted { result ≡ Err GraphFault.NoMemory
+        → StaysUnfinished graph_ahead lines.old (S.seen shelf.old) (S.seen shelf.new) }
     ensures unstopped { IsOk result → lines.new.stopped ≡ None }
     ensures fault { result ≡ Err GraphFault.Fault
         → CountRose (S.seen shelf.old) (S.seen shelf.new) }
@@ -89,11 +95,11 @@ fn read_problem<S: Shelf>(
 }
 
 /// What a line says where no problem line came before it. None is of a line that is skipped.
-fn problem_of(line: &Line) -> Result<Option<Said>, GraphFault>
+fn problem_of(line: &Line) -> Result<Option<SaidCounts>, GraphFault>
     ensures says { SaysProblem line.now result }
     ensures few_nodes { IfOk result (λ o. IfSome o (λ said. said.nodes ≤ most_nodes)) }
     ensures few_roads { IfOk result (λ o. IfSome o (λ said. said.roads ≤ most_roads)) }
-    ensures refusal { IfErr result IsRefusal }
+    ensures refusal { IfErr result (IsRefusalAt line.now.number) }
 {
     match graph_line(line.bytes.as_slice()) {
         GraphLine::Skipped => Ok(None),
@@ -101,7 +107,7 @@ fn problem_of(line: &Line) -> Result<Option<Said>, GraphFault>
             if nodes > u64::from(MOST_NODES) || roads > MOST_ROADS as u64 {
                 return Err(GraphFault::Limit { line: line.number });
             }
-            Ok(Some(Said {
+            Ok(Some(SaidCounts {
                 nodes: nodes as u32,
                 roads: roads as u32,
             }))
@@ -116,7 +122,7 @@ fn read_roads<S: Shelf>(
     lines: &mut CountedLines,
     shelf: &mut S,
     line: &mut Line,
-    said: Said,
+    said: SaidCounts,
 ) -> Result<Items<Road>, GraphFault>
     requires begun { (S.seen shelf.old).begun ≡ true }
     requires unstopped { lines.old.stopped ≡ None }
@@ -127,6 +133,11 @@ fn read_roads<S: Shelf>(
     ensures refused { Refuses (said_roads said lines.old (S.seen shelf.old).left) result }
     ensures unread { result ≡ Err GraphFault.Fault
         → StaysUndecided (said_roads said) lines.old (S.seen shelf.old) (S.seen shelf.new) }
+    ensures goes { IsOk result
+        → StaysReadFrom lines.old (S.seen shelf.old) lines.new (S.seen shelf.new) }
+    ensures near { RefusesNear lines.old (S.seen shelf.old) result (S.seen shelf.new) }
+    ensures wanted { result ≡ Err GraphFault.NoMemory
+        → StaysUnfinished (said_roads said) lines.old (S.seen shelf.old) (S.seen shelf.new) }
     ensures fault { result ≡ Err GraphFault.Fault
         → CountRose (S.seen shelf.old) (S.seen shelf.new) }
     ensures quiet { (S.seen shelf.old).quiet ≡ true → result ≢ Err GraphFault.Fault
@@ -161,12 +172,12 @@ fn push_some(roads: &mut Items<Road>, road: Option<Road>) -> Result<(), NoMemory
 }
 
 /// What a line says behind the problem line, where so many roads were found before it. None is of a line that is skipped.
-fn road_of(line: &Line, said: Said, found: usize) -> Result<Option<Road>, GraphFault>
+fn road_of(line: &Line, said: SaidCounts, found: usize) -> Result<Option<Road>, GraphFault>
     requires few { found ≤ said.roads }
     ensures says { SaysArc said found line.now result }
     ensures within { IfOk result (λ o. IfSome o (λ road. is_within said.nodes road ≡ true)) }
     ensures fewer { IfOk result (λ o. IfSome o (λ _. found < said.roads)) }
-    ensures refusal { IfErr result IsRefusal }
+    ensures refusal { IfErr result (IsRefusalAt line.now.number) }
 {
     match graph_line(line.bytes.as_slice()) {
         GraphLine::Skipped => Ok(None),
@@ -190,7 +201,7 @@ fn road_of(line: &Line, said: Said, found: usize) -> Result<Option<Road>, GraphF
 fn road(line: u64, nodes: u32, from: u64, to: u64, weight: u64) -> Result<Road, GraphFault>
     ensures says { SaysRoad nodes line from to weight result }
     ensures within { IfOk result (λ road. is_within nodes road ≡ true) }
-    ensures refusal { IfErr result IsRefusal }
+    ensures refusal { IfErr result (IsRefusalAt line) }
 {
     let (Some(from), Some(to)) = (node(nodes, from), node(nodes, to)) else {
         return Err(GraphFault::Node { line });

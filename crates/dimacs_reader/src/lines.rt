@@ -2,7 +2,7 @@ ghost use Rattle.std.specs.Prelude.{◌≡◌, ◌≢◌, ℕ, ◌+◌, true, Li
 ghost use Rattle.ride_base.specs.Outside.{CountRose, CountStays, OnlyRead};
 ghost use Rattle.ride_base.specs.Pieces.{largest_text};
 ghost use Rattle.ride_base.specs.Reader.{new_reader};
-ghost use Rattle.dimacs_reader.specs.Calls.{GivesNext, HasReadNoMore, StaysReadFrom};
+ghost use Rattle.dimacs_reader.specs.Calls.{GivesNext, HasReadNoMore, ReadsNear, RefusesNext, StaysBehind, StaysReadFrom};
 ghost use Rattle.dimacs_reader.specs.Reading.{CountsLine, fault_at as fault_of};
 ghost use Rattle.dimacs_reader.specs.Refusals.{IsReadFrom};
 
@@ -55,10 +55,14 @@ impl CountedLines {
         ensures gives { GivesNext self.old (S.seen shelf.old) result line.new
             self.new (S.seen shelf.new) }
         ensures counts { CountsLine self.old result line.new self.new }
-        ensures goes { result ≡ Ok true
+        ensures goes { IsOk result
             → StaysReadFrom self.old (S.seen shelf.old) self.new (S.seen shelf.new) }
         ensures unread { result ≡ Err GraphFault.Fault
             → HasReadNoMore self.old (S.seen shelf.old) (S.seen shelf.new) }
+        ensures numbered { RefusesNext self.old result }
+        ensures near { ReadsNear self.old (S.seen shelf.old) (S.seen shelf.new) }
+        ensures wanted { result ≡ Err GraphFault.NoMemory
+            → StaysBehind self.old (S.seen shelf.old) (S.seen shelf.new) }
         ensures unstopped { IsOk result → self.new.stopped ≡ None }
         ensures fault { result ≡ Err GraphFault.Fault
             → CountRose (S.seen shelf.old) (S.seen shelf.new) }

@@ -1,10 +1,10 @@
 ghost use Rattle.std.specs.Prelude.{◌≡◌, ◌≢◌, ℕ, ◌<◌, ◌≤◌, ◌+◌, ◌-◌, ◌^◌, [], true, IfOk, IfErr, IfSome, IfNone, IsOk, Err, None, OnOk, length, set};
 ghost use Rattle.std.specs.Option.{option_to_list};
 ghost use Rattle.ride_base.specs.Outside.{CountRose, CountStays, OnlyRead};
-ghost use Rattle.dimacs_reader.specs.Calls.{ArePlacesOf, AreSaidPlaces, HoldsMore, HoldsPlaces, IsFreeAt, IsHeaderAhead, IsNoneFree, LeavesUndecided, Refuses, RefusesText, SaysHeader, SaysPlace, SaysPlacing, StaysReadFrom, StaysUndecided};
+ghost use Rattle.dimacs_reader.specs.Calls.{ArePlacesOf, AreSaidPlaces, HoldsMore, HoldsPlaces, IsFreeAt, IsHeaderAhead, IsNoneFree, LeavesUndecided, LeavesUnfinished, Refuses, RefusesNear, RefusesText, RefusesTextNear, SaysHeader, SaysPlace, SaysPlacing, StaysReadFrom, StaysUndecided, StaysUnfinished};
 ghost use Rattle.dimacs_reader.specs.Places.{places_of};
 ghost use Rattle.dimacs_reader.specs.Reading.{places_ahead, placed_ahead};
-ghost use Rattle.dimacs_reader.specs.Refusals.{IsRefusal};
+ghost use Rattle.dimacs_reader.specs.Refusals.{IsRefusalAt};
 
 use crate::faults::GraphFault;
 use crate::forms::{Coordinate, PlaceLine, place_line};
@@ -46,6 +46,9 @@ pub fn read_places<S: Shelf>(
     ensures refused { RefusesText (places_of nodes) (S.seen shelf.old).left result }
     ensures unread { result ≡ Err GraphFault.Fault
         → LeavesUndecided (places_of nodes) (S.seen shelf.old) (S.seen shelf.new) }
+    ensures near { RefusesTextNear (S.seen shelf.old) result (S.seen shelf.new) }
+    ensures wanted { result ≡ Err GraphFault.NoMemory
+        → LeavesUnfinished (places_of nodes) (S.seen shelf.old) (S.seen shelf.new) }
     ensures fault { result ≡ Err GraphFault.Fault
         → CountRose (S.seen shelf.old) (S.seen shelf.new) }
     ensures quiet { (S.seen shelf.old).quiet ≡ true → result ≢ Err GraphFault.Fault
@@ -75,6 +78,9 @@ fn read_header<S: Shelf>(
         → StaysReadFrom lines.old (S.seen shelf.old) lines.new (S.seen shelf.new) }
     ensures unread { result ≡ Err GraphFault.Fault
         → StaysUndecided (places_ahead nodes) lines.old (S.seen shelf.old) (S.seen shelf.new) }
+    ensures near { RefusesNear lines.old (S.seen shelf.old) result (S.seen shelf.new) }
+    ensures wanted { result ≡ Err GraphFault.NoMemory
+        → StaysUnfinished (places_ahead nodes) lines.old (S.seen shelf.old) (S.seen shelf.new) }
     ensures unstopped { IsOk result → lines.new.stopped ≡ None }
     ensures fault { result ≡ Err GraphFault.Fault
         → CountRose (S.seen shelf.old) (S.seen shelf.new) }
@@ -96,7 +102,7 @@ fn read_header<S: Shelf>(
 /// Whether a line is the header, where none came before it.
 fn is_header(line: &Line, nodes: u32) -> Result<bool, GraphFault>
     ensures says { SaysHeader nodes line.now result }
-    ensures refusal { IfErr result IsRefusal }
+    ensures refusal { IfErr result (IsRefusalAt line.now.number) }
 {
     match place_line(line.bytes.as_slice()) {
         PlaceLine::Skipped => Ok(false),
@@ -136,6 +142,9 @@ fn read_each<S: Shelf>(
     ensures refused { Refuses (placed_ahead nodes [] lines.old (S.seen shelf.old).left) result }
     ensures unread { result ≡ Err GraphFault.Fault
         → StaysUndecided (placed_ahead nodes []) lines.old (S.seen shelf.old) (S.seen shelf.new) }
+    ensures near { RefusesNear lines.old (S.seen shelf.old) result (S.seen shelf.new) }
+    ensures wanted { result ≡ Err GraphFault.NoMemory
+        → StaysUnfinished (placed_ahead nodes []) lines.old (S.seen shelf.old) (S.seen shelf.new) }
     ensures fault { result ≡ Err GraphFault.Fault
         → CountRose (S.seen shelf.old) (S.seen shelf.new) }
     ensures quiet { (S.seen shelf.old).quiet ≡ true → result ≢ Err GraphFault.Fault
@@ -180,7 +189,7 @@ impl Coordinates {
         ensures says { SaysPlace nodes self.now line.now result }
         ensures free { IfOk result (λ o. IfSome o (λ placing. IsFreeAt self.now placing.index)) }
         ensures fewer { IfOk result (λ o. IfSome o (λ _. self.now.count < nodes)) }
-        ensures refusal { IfErr result IsRefusal }
+        ensures refusal { IfErr result (IsRefusalAt line.now.number) }
     {
         match place_line(line.bytes.as_slice()) {
             PlaceLine::Skipped => Ok(None),
@@ -210,7 +219,7 @@ impl Coordinates {
     ) -> Result<Placing, GraphFault>
         ensures says { SaysPlacing self.now line node x y result }
         ensures free { IfOk result (λ placing. IsFreeAt self.now placing.index) }
-        ensures refusal { IfErr result IsRefusal }
+        ensures refusal { IfErr result (IsRefusalAt line) }
     {
         let Some(index) = self.free(node) else {
             return Err(GraphFault::Node { line });

@@ -1,7 +1,8 @@
-mod Cutting
-mod Going
-mod Keeping
-mod Riding
-mod Rising
-mod Rowing
-mod Stepping
+mod AreVehicles
+mod Capped
+mod Gives
+mod IsReadWithin
+mod Keeps
+mod RideWith
+mod RowOf
+mod RowsSoFar

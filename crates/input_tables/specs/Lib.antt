@@ -1,4 +1,3 @@
-pub mod Events
 pub mod Fleets
 pub mod Numbers
 pub mod Records

@@ -19,10 +19,10 @@ numbers_of [] = Some []
 numbers_of (field ∷ fields) = before (capped_of field) (numbers_of fields)
 
 -- no number is left, or not each field is one
-abbrev pub IsOver : Option (List ℕ) → Type 0
-IsOver None = Unit {0}
-IsOver (Some []) = Unit {0}
-IsOver (Some (number ∷ numbers)) = ⊥
+abbrev pub HasNoNumber : Option (List ℕ) → Type 0
+HasNoNumber None = Unit {0}
+HasNoNumber (Some []) = Unit {0}
+HasNoNumber (Some (number ∷ numbers)) = ⊥
 
 -- a number is left, or not each field is one
 abbrev pub GoesOn : Option (List ℕ) → Type 0

@@ -16,7 +16,7 @@ IsRefusal (Range row) = Unit {0}
 IsRefusal (Double row) = Unit {0}
 IsRefusal NoMemory = ⊥
 
--- where the shelf failed, no byte past the limit was read of the text
+-- where the shelf failed or memory was wanted, no byte past the limit was read of the text
 abbrev pub IsReadWithin : (text : List ℕ) (left : Option (List ℕ)) → Type 0
 IsReadWithin text left = (read rest : List ℕ) × (left ≡ Some rest) × (text ≡ read ++ rest) × (length read ≤ largest_fleet_text)
 
@@ -24,8 +24,8 @@ IsReadWithin text left = (read rest : List ℕ) × (left ≡ Some rest) × (text
 abbrev pub HasFleet : (nodes : ℕ) → List Vehicle → List ℕ → Type 0
 HasFleet nodes vehicles text = fleet_of nodes text ≡ Ok vehicles
 
-abbrev pub IsRefusedAs : (nodes : ℕ) → FleetFault → List ℕ → Type 0
-IsRefusedAs nodes fault text = fleet_of nodes text ≡ Err fault
+abbrev pub IsRefusedFor : (nodes : ℕ) → FleetFault → List ℕ → Type 0
+IsRefusedFor nodes fault text = fleet_of nodes text ≡ Err fault
 
 -- a fault that refuses the text is what the definition answers
 abbrev pub Refuses : {X : Type 0} → Result X FleetFault → FleetFault → Type 0

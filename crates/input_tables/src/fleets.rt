@@ -8,7 +8,7 @@ ghost use Rattle.stop_schedule.specs.declared.vehicle.Vehicle.{Vehicle};
 ghost use Rattle.std.specs.BTreeMap.{values};
 ghost use Rattle.input_tables.specs.Fleets.{fleet_in, fleet_in_text, largest_fleet_text, rows_in, vehicle_of_record, stood_before, is_in_range as is_in_range_of};
 ghost use Rattle.input_tables.specs.Records.{IsReading, records_left};
-ghost use Rattle.input_tables.specs.Refusals.{HasFleet, IsReadWithin, IsRefusal, IsRefusedAs, Refuses, RefusesRecords, fault_of_text};
+ghost use Rattle.input_tables.specs.Refusals.{HasFleet, IsReadWithin, IsRefusal, IsRefusedFor, Refuses, RefusesRecords, fault_of_text};
 ghost use Rattle.stop_schedule.specs.Bounds.{AreVehicles};
 ghost use Rattle.input_tables.specs.Rows.{IsHeaded, Keeps, kept_of, ranged_by, vehicle_by};
 
@@ -40,12 +40,14 @@ pub fn read_fleet<S: Shelf>(
     ensures fleet { IfOk result (λ v. WhereTold (S.seen shelf.old).left (HasFleet nodes v)) }
     ensures vehicles { IfOk result (λ v. AreVehicles nodes v) }
     ensures refused { IfErr result (λ e. IsRefusal e
-        → WhereTold (S.seen shelf.old).left (IsRefusedAs nodes e)) }
+        → WhereTold (S.seen shelf.old).left (IsRefusedFor nodes e)) }
     ensures fault { result ≡ Err FleetFault.Fault
         → CountRose (S.seen shelf.old) (S.seen shelf.new) }
     ensures quiet { (S.seen shelf.old).quiet ≡ true → result ≢ Err FleetFault.Fault
         → CountStays (S.seen shelf.old) (S.seen shelf.new) }
     ensures unread { result ≡ Err FleetFault.Fault
+        → WhereTold (S.seen shelf.old).left (λ text. IsReadWithin text (S.seen shelf.new).left) }
+    ensures wanted { result ≡ Err FleetFault.NoMemory
         → WhereTold (S.seen shelf.old).left (λ text. IsReadWithin text (S.seen shelf.new).left) }
     ensures near { CameAtMost (largest_fleet_text + longest_read)
         (S.seen shelf.old).left (S.seen shelf.new).left }

@@ -1,6 +1,7 @@
 //! Reads tables of vehicles and the lines of request streams.
 //! The layer above uses that `read_fleet` gives the vehicles of the definitions, in their ranges and with rising numbers, or the first
-//! fault of the text, and that `stream_line` says what the definition says of a line.
+//! fault of the text, that no text past its limit is told as want of memory (`wanted`), and that `stream_line` says what the definition
+//! says of a line.
 #![tactic(auto)]
 
 mod cells;

@@ -1,6 +1,6 @@
 ghost use Rattle.std.specs.Prelude.{◌≡◌, [], IfOk, IfErr, OnOk};
 ghost use Rattle.ride_base.specs.Fields.{fields_of};
-ghost use Rattle.input_tables.specs.Numbers.{HasNumber, numbers_of, IsOver, GoesOn, last_number_of, ride_with};
+ghost use Rattle.input_tables.specs.Numbers.{HasNumber, numbers_of, HasNoNumber, GoesOn, last_number_of, ride_with};
 ghost use Rattle.input_tables.specs.Streams.{IsInRange, stream_line_of, move_of, cancel_of, ranged_ride};
 
 use crate::faults::StreamFault;
@@ -137,7 +137,7 @@ fn request(
 fn next_number(fields: &[u8]) -> Result<(u64, &[u8]), StreamFault>
     ensures number { IfOk result (λ parts. HasNumber fields.now parts.0 parts.1.now) }
     ensures none { IfErr result
-        (λ e. (e ≡ StreamFault.Form) × IsOver (numbers_of (fields_of fields.now))) }
+        (λ e. (e ≡ StreamFault.Form) × HasNoNumber (numbers_of (fields_of fields.now))) }
 {
     let (field, rest) = next_field(fields).ok_or(StreamFault::Form)?;
     let number = capped_number(field).ok_or(StreamFault::Form)?;

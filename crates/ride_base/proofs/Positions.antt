@@ -62,7 +62,7 @@ not_less a b h = grind (arith, nat_tests)
 pub is_less : (a b : ℕ) → a < b → nat_lt a b ≡ true
 is_less a b h = grind (arith, nat_tests)
 
-is_not_less : (a b : ℕ) → b ≤ a → nat_lt a b ≡ false
+pub is_not_less : (a b : ℕ) → b ≤ a → nat_lt a b ≡ false
 is_not_less a b h = grind (arith, nat_tests)
 
 -- a place that was found

@@ -54,7 +54,7 @@ whole_is None b l r q e = cc
 whole_is (Some Long) b l r q e = cc
 whole_is (Some Large) b l r q e = cc
 
-some_ended : (o : Option ℕ) → is_some o ≡ true → (k : ℕ) × (o ≡ Some k)
+pub some_ended : (o : Option ℕ) → is_some o ≡ true → (k : ℕ) × (o ≡ Some k)
 some_ended None e = absurd (let f : false ≡ true = e in cc)
 some_ended (Some k) e = (k, refl)
 
@@ -150,7 +150,7 @@ one_given p p' room room' (Some l) (Some l') line t s ended all text lines g =
     (first_more all text (p ++ l) lines line.bytes room room' g (sym t.2 ∙ ended) t.0 spends)
 
 -- more was read, and no line given
-before_still : (p p' : List ℕ) (room : ℕ) (left left' : Option (List ℕ)) → with_read p' left' ≡ with_read p left
+pub before_still : (p p' : List ℕ) (room : ℕ) (left left' : Option (List ℕ)) → with_read p' left' ≡ with_read p left
     → (all : ℕ) (text : List ℕ) (lines : List (List ℕ)) → AreBefore all text lines room p left → AreBefore all text lines room p' left'
 before_still p p' room None left' e all text lines g = absurd g
 before_still p p' room (Some l) None e all text lines g = cc

@@ -112,13 +112,13 @@ some_length : (b : ℕ) (bs : List ℕ) (x y : List Piece) → cond (length (b �
 some_length b bs x y = ap (λ (t : Bool). cond t x y) (eqb-suc-zero (length bs))
 
 -- the pieces of a last line
-pieces_last : (room : ℕ) (p : List ℕ) → 0 < length p → position is_line_end p ≡ None → pieces room p ≡ pieces_at_limit (limit_at (length p) (length p) room) p []
+pub pieces_last : (room : ℕ) (p : List ℕ) → 0 < length p → position is_line_end p ≡ None → pieces room p ≡ pieces_at_limit (limit_at (length p) (length p) room) p []
 pieces_last room [] some h = absurd (omega arith)
 pieces_last room (b ∷ bs) some h = ap (pieces_of_parts room) (slice_split_none is_line_end (b ∷ bs) (unended (b ∷ bs) h))
     ∙ some_length b bs [] (pieces_from room (length (b ∷ bs)) (b ∷ bs) (b ∷ bs) []) ∙ pieces_from_is room (length (b ∷ bs)) (b ∷ bs) (b ∷ bs) []
 
 -- a size without an end
-plain : (n room : ℕ) (p : List ℕ) → n ≡ length p → limit_at n (n + 0) room ≡ limit_at (length p) (length p) room
+pub plain : (n room : ℕ) (p : List ℕ) → n ≡ length p → limit_at n (n + 0) room ≡ limit_at (length p) (length p) room
 plain n room p h = let e : n + 0 ≡ length p = omega arith in ap (λ (m : ℕ). limit_at n m room) e ∙ ap (λ (m : ℕ). limit_at m (length p) room) h
 
 pub gives_last : (p : List ℕ) (room n : ℕ) (pending' : List ℕ) (room' : ℕ) (left : Option (List ℕ)) (line : Line) → IsAtEnd left → n ≡ length p → (n ≡ 0 → ⊥) → position is_line_end p ≡ None

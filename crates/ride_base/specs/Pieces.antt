@@ -1,4 +1,4 @@
-use Rattle.std.specs.Prelude.{◌≡◌, ℕ, ◌+◌, ◌-◌, ◌==◌, nat_lt, nat_le, ◌&&◌, Bool, true, false, cond, List, [], ◌∷◌, length, position, is_some, refl}
+use Rattle.std.specs.Prelude.{◌≡◌, ◌⊎◌, ℕ, ◌+◌, ◌-◌, ◌==◌, nat_lt, nat_le, ◌&&◌, Bool, true, false, cond, List, [], ◌∷◌, length, position, is_some, refl}
 use Rattle.std.specs.List.{slice_split, after_first}
 use Rattle.std.specs.Str.Lines.{strip_carriage_return}
 
@@ -37,6 +37,10 @@ pieces_of_parts room (part ∷ next ∷ more) =
 -- the pieces of a text that may have so many bytes
 abbrev pub pieces : ℕ → List ℕ → List Piece
 pieces room text = pieces_of_parts room (slice_split is_line_end text)
+
+-- the text is refused before its first line ends
+abbrev pub IsRefused : List Piece → Type 0
+IsRefused pieces = (pieces ≡ TooLong ∷ []) ⊎ (pieces ≡ TooLarge ∷ [])
 
 -- what stands after the first line end, or nothing where there is none
 abbrev pub after_line : List ℕ → List ℕ

@@ -1,9 +1,9 @@
-use Rattle.std.specs.Prelude.{◌≡◌, ℕ, ◌+◌, ◌≤◌, false, List, [], ◌∷◌, ◌++◌, map, length, Option, Some, None, refl}
-use Rattle.std.specs.List.{All, slice_split}
+use Rattle.std.specs.Prelude.{◌≡◌, ℕ, zero, suc, ◌+◌, ◌-◌, ◌≤◌, min, false, List, [], ◌∷◌, ◌++◌, map, length, Option, Some, None, refl}
+use Rattle.std.specs.List.{All, position_or_len, slice_split}
 use Rattle.std.specs.Str.Lines.{strip_carriage_return}
 use Rattle.ride_base.specs.Outside.{ShelfState}
-use Rattle.ride_base.specs.Pieces.{Piece, Whole, pieces, ended_lines, is_line_end, longest_line}
-use Rattle.ride_base.specs.Reader.{Reader}
+use Rattle.ride_base.specs.Pieces.{Piece, Whole, pieces, after_line, ended_lines, is_line_end, longest_line}
+use Rattle.ride_base.specs.Reader.{Reader, longest_read}
 
 -- Prefixes of a text that is read in pieces.
 
@@ -57,6 +57,19 @@ AreBefore all text lines room pending (Some left) = AreFirstLines all text lines
 abbrev pub AreGiven : (all : ℕ) → (text : List ℕ) → (lines : List (List ℕ)) → Reader → (left : Option (List ℕ)) → Type 0
 AreGiven all text lines reader left = AreBefore all text lines reader.room reader.pending left
 
+-- How many bytes the first lines of a text take that may have so many, each with its end. Of the last of them it is no more than a
+-- line may have.
+abbrev pub size_of_lines : (lines room : ℕ) → (text : List ℕ) → ℕ
+size_of_lines zero room text = 0
+size_of_lines (suc zero) room text = min (min room longest_line) (position_or_len is_line_end text) + 1
+size_of_lines (suc (suc lines)) room text =
+    position_or_len is_line_end text + 1 + size_of_lines (suc lines) (room - (position_or_len is_line_end text + 1)) (after_line text)
+
+-- no more was read of a text than its first lines, and one read behind them
+abbrev pub IsReadNear : (lines room : ℕ) → (text : List ℕ) → (left : Option (List ℕ)) → Type 0
+IsReadNear lines room text None = ⊥
+IsReadNear lines room text (Some left) = length text ≤ length left + size_of_lines lines room text + longest_read
+
 -- exactly these lines are ended among what was read
 abbrev pub IsReadWithLines : (all : ℕ) → (text : List ℕ) → (lines : List (List ℕ)) → (left : Option (List ℕ)) → Type 0
 IsReadWithLines all text lines left = (r : IsReadTo all text left) × (ended_lines r.read ≡ lines)
@@ -76,3 +89,11 @@ behind_two = refl
 
 behind_the_last : behind_line_ends (97 ∷ 10 ∷ []) ≡ []
 behind_the_last = refl
+
+-- two lines of one byte and two, with their ends
+size_of_two : size_of_lines 2 100 (97 ∷ 10 ∷ 98 ∷ 99 ∷ 10 ∷ 100 ∷ 10 ∷ []) ≡ 5
+size_of_two = refl
+
+-- of a line past the room no more than the room
+size_past : size_of_lines 2 3 (97 ∷ 10 ∷ 98 ∷ 99 ∷ 10 ∷ []) ≡ 4
+size_past = refl

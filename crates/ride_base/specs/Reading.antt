@@ -1,5 +1,5 @@
 use Rattle.std.specs.Prelude.{◌≡◌, ℕ, ◌+◌, ◌<◌, ◌≤◌, ◌++◌, not, Bool, true, false, List, [], ◌∷◌, length, IfOk, IfSome, Option, Some, None, Result, Ok, Err}
-use Rattle.ride_base.specs.Pieces.{Whole, TooLong, TooLarge, pieces, after_line, is_ended}
+use Rattle.ride_base.specs.Pieces.{Whole, TooLong, TooLarge, IsRefused, pieces, after_line, is_ended}
 use Rattle.ride_base.specs.Buffers.{with_read, IsAtEnd, IsWithinARead}
 use Rattle.ride_base.specs.Prefixes.{HasGivenMore}
 use Rattle.ride_base.specs.Outside.{ShelfState}
@@ -31,6 +31,10 @@ abbrev pub line_read : Result Bool LineFault → Line → Result (Option Line) L
 line_read (Ok true) line = Ok (Some line)
 line_read (Ok false) line = Ok None
 line_read (Err error) line = Err error
+
+-- what was read and not given doesn't show that the next line, or the text, meets a limit
+abbrev pub ShowsNoLimit : Reader → Type 0
+ShowsNoLimit reader = IsRefused (pieces reader.room reader.pending) → ⊥
 
 -- what is given is taken from the bytes that may still be given, where the text is told
 abbrev pub Spends : ℕ → Option (List ℕ) → ℕ → Option (List ℕ) → Type 0
@@ -69,16 +73,15 @@ fault_of_read Failed = Fault
 fault_of_read ReadNoMemory = NoMemory
 
 -- What an answer says of the rest of a text that may have so many bytes, where it is told. After an error a prefix of it is lost, and
--- none of it past the limit where the shelf failed.
+-- none of it past the limit where the shelf failed or memory was wanted. No line is too long.
 abbrev pub TellsWhole : Option (List ℕ) → ℕ → Result (List ℕ) LineFault → Option (List ℕ) → Type 0
 TellsWhole None limit answer after = after ≡ None
 TellsWhole (Some text) limit (Ok bytes) after = (bytes ≡ text) × (after ≡ Some [])
 TellsWhole (Some text) limit (Err Large) None = ⊥
 TellsWhole (Some text) limit (Err Large) (Some after) = (limit < length text) × ((lost : List ℕ) × (text ≡ lost ++ after))
-TellsWhole (Some text) limit (Err Fault) None = ⊥
-TellsWhole (Some text) limit (Err Fault) (Some after) = (lost : List ℕ) × (length lost ≤ limit) × (text ≡ lost ++ after)
+TellsWhole (Some text) limit (Err Long) after = ⊥
 TellsWhole (Some text) limit (Err error) None = ⊥
-TellsWhole (Some text) limit (Err error) (Some after) = (lost : List ℕ) × (text ≡ lost ++ after)
+TellsWhole (Some text) limit (Err error) (Some after) = (lost : List ℕ) × (length lost ≤ limit) × (text ≡ lost ++ after)
 
 -- What the call for the next line promises. `old` and `shelf` are the reader and what is seen of the shelf before the call, `new` and
 -- `shelf'` after it.

@@ -4,7 +4,7 @@ ghost use Rattle.ride_base.specs.Pieces.{is_line_end, largest_text, longest_line
 ghost use Rattle.ride_base.specs.Reader.{HasNoLineEnd, most_held, most_line, new_reader};
 ghost use Rattle.ride_base.specs.Buffers.{limit_at as limit_of, limit_past as past_limit};
 ghost use Rattle.ride_base.specs.Limits.{shown_limit};
-ghost use Rattle.ride_base.specs.Reading.{Counts, GivesOneMore, IsNear, SpendsNext, SpendsStill, StaysOver, StaysStopped, TellsAtEnd, TellsNext, TellsStill, fault_of, limit_after, line_read, over_after};
+ghost use Rattle.ride_base.specs.Reading.{Counts, GivesOneMore, IsNear, ShowsNoLimit, SpendsNext, SpendsStill, StaysOver, StaysStopped, TellsAtEnd, TellsNext, TellsStill, fault_of, limit_after, line_read, over_after};
 ghost use Rattle.ride_base.specs.Prefixes.{AreGiven, HasReadGiven};
 
 use crate::buffer::{Buffer, LineScan, ReadFault};
@@ -56,7 +56,7 @@ pub enum LineFault {
     /// The text has more bytes than it may have. Each further call answers the same.
     #[error("the text is too large")]
     Large,
-    /// There was no memory. No byte is lost, and the next call goes on.
+    /// There was no memory for the next line, or to read it. No byte is lost, and the next call goes on.
     #[error("out of memory")]
     NoMemory,
 }
@@ -183,6 +183,7 @@ impl Lines {
             → CountStays (S.seen shelf.old) (S.seen shelf.new) }
         ensures unended { result ≡ Err LineFault.Fault → HasNoLineEnd self.new.pending }
         ensures few { result ≡ Err LineFault.Fault → length self.new.pending ≤ most_line self.old }
+        ensures wanted { result ≡ Err LineFault.NoMemory → ShowsNoLimit self.new }
         ensures surely { (S.seen shelf.old).sure ≡ true → result ≡ Err LineFault.Fault → ⊥ }
         ensures holds { IsSome (position is_line_end self.old.pending) → shelf.new ≡ shelf.old }
         ensures near { IsNear self.old (S.seen shelf.old) (S.seen shelf.new) }
@@ -219,6 +220,7 @@ impl Lines {
             → CountStays (S.seen shelf.old) (S.seen shelf.new) }
         ensures unended { result ≡ Err LineFault.Fault → HasNoLineEnd self.new.pending }
         ensures few { result ≡ Err LineFault.Fault → length self.new.pending ≤ most_line self.old }
+        ensures wanted { result ≡ Err LineFault.NoMemory → ShowsNoLimit self.new }
         ensures surely { (S.seen shelf.old).sure ≡ true → result ≡ Err LineFault.Fault → ⊥ }
         ensures holds { IsSome (position is_line_end self.old.pending) → shelf.new ≡ shelf.old }
         ensures near { IsNear self.old (S.seen shelf.old) (S.seen shelf.new) }
@@ -251,6 +253,7 @@ impl Lines {
         ensures over { self.new.over ≡ over_after false (line_read result line.new) }
         ensures held { length self.new.pending ≤ most_held }
         ensures fault { result ≡ Err LineFault.Fault → ⊥ }
+        ensures wanted { result ≡ Err LineFault.NoMemory → ShowsNoLimit self.new }
     {
         if let Some(limit) = limit_at(at, true, self.room) {
             self.stopped = Some(limit);
@@ -276,6 +279,7 @@ impl Lines {
         ensures over { self.new.over ≡ over_after false (line_read result line.new) }
         ensures held { length self.new.pending ≤ most_held }
         ensures fault { result ≡ Err LineFault.Fault → ⊥ }
+        ensures wanted { result ≡ Err LineFault.NoMemory → ShowsNoLimit self.new }
     {
         let length = self.pending.len();
         if length == 0 {
@@ -308,6 +312,7 @@ impl Lines {
         ensures over { self.new.over ≡ false }
         ensures held { length self.new.pending ≤ most_held }
         ensures fault { result ≡ LineFault.Fault → ⊥ }
+        ensures wanted { result ≡ LineFault.NoMemory → ⊥ }
     {
         let limit = limit_past(self.room);
         self.stopped = Some(limit);

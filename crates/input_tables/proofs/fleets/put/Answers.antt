@@ -1,5 +1,5 @@
 use Rattle.std.proofs.Common.{refl, ◌∙◌}
-use Rattle.input_tables.proofs.Keeping.{keeps_more}
+use Rattle.input_tables.proofs.Keeps.{keeps_more}
 use Rattle.input_tables.proofs.fleets.put.Goals as goal
 
 pub returns : goal.returns

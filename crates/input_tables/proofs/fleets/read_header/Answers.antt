@@ -1,6 +1,6 @@
 use Rattle.std.proofs.Common.{sym, ◌∙◌}
 use Rattle.csv.specs.Records.{fields_of}
-use Rattle.input_tables.proofs.Rowing.{headed, unheaded}
+use Rattle.input_tables.proofs.RowOf.{headed, unheaded}
 use Rattle.input_tables.proofs.fleets.read_header.Goals as goal
 
 pub returns-in-None-clause-refused : goal.returns-in-None-clause-refused

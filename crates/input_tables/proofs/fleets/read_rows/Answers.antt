@@ -1,7 +1,7 @@
 use Rattle.std.proofs.Common.{◌≡◌, Ok, map, sym}
 use Rattle.csv.specs.Records.{fields_of}
 use Rattle.input_tables.specs.Fleets.{vehicle_in, row_fields, without_blanks}
-use Rattle.input_tables.proofs.Going.{row_more, given}
+use Rattle.input_tables.proofs.RowsSoFar.{row_more, given}
 use Rattle.input_tables.proofs.fleets.read_rows.Goals as goal
 
 pub loop-vehicles-preserved : goal.loop-vehicles-preserved

@@ -1,6 +1,6 @@
 use Rattle.std.proofs.Common.{length}
 use Rattle.input_tables.specs.Records.{IsReading, records_left}
-use Rattle.input_tables.proofs.Going.{RowsSoFar}
+use Rattle.input_tables.proofs.RowsSoFar.{RowsSoFar}
 use Rattle.input_tables.proofs.fleets.read_rows.Given as goal
 
 abbrev pub invariant-loop-vehicles : goal.invariant-loop-vehicles

@@ -1,5 +1,5 @@
 use Rattle.input_tables.specs.Records.{records_left}
-use Rattle.input_tables.proofs.Rising.{whole_table, whole_vehicles}
+use Rattle.input_tables.proofs.AreVehicles.{whole_table, whole_vehicles}
 use Rattle.input_tables.proofs.fleets.read_table.Goals as goal
 
 pub returns-clause-fleet : goal.returns-clause-fleet

@@ -2,8 +2,8 @@ use Rattle.std.proofs.Common.{◌≡◌, Some, true, false, refl, sym, rules, �
 use Rattle.csv.specs.Records.{fields_of}
 use Rattle.input_tables.specs.Fleets.{stood_before}
 use Rattle.input_tables.specs.Rows.{row_of}
-use Rattle.input_tables.proofs.Keeping.{stands}
-use Rattle.input_tables.proofs.Rowing.{no_row, no_vehicle, late_row, double_row, good_row}
+use Rattle.input_tables.proofs.Keeps.{stands}
+use Rattle.input_tables.proofs.RowOf.{no_row, no_vehicle, late_row, double_row, good_row}
 use Rattle.input_tables.proofs.fleets.vehicle_in.Goals as goal
 
 pub returns-in_default-clause-vehicle : goal.returns-in_default-clause-vehicle

@@ -1,5 +1,5 @@
 use Rattle.std.proofs.Common.{◌≡◌, Err, ap, ◌∙◌, rules}
-use Rattle.input_tables.proofs.Riding.{ride_by, a_last}
+use Rattle.input_tables.proofs.RideWith.{ride_by, a_last}
 use Rattle.input_tables.proofs.lines.ride.Goals as goal
 
 pub returns-in_err-spaces-clause-says : goal.returns-in_err-spaces-clause-says

@@ -1,6 +1,6 @@
 use Rattle.std.proofs.Common.{◌≡◌, ℕ, List, ◌∷◌, rules, codes, sym, ap, ◌∙◌}
 use Rattle.ride_base.specs.Fields.{fields_of}
-use Rattle.input_tables.proofs.Riding.{says_ride}
+use Rattle.input_tables.proofs.RideWith.{says_ride}
 use Rattle.input_tables.proofs.lines.stream_line.Goals as goal
 
 pub returns-then-eq-clause-says : goal.returns-then-eq-clause-says

@@ -1,5 +1,5 @@
 use Rattle.csv.specs.Records.{fields_of}
-use Rattle.input_tables.proofs.Stepping.{read_gives}
+use Rattle.input_tables.proofs.Gives.{read_gives}
 use Rattle.input_tables.proofs.records.next_record.Goals as goal
 
 pub returns-in-Ok-clause-gives : goal.returns-in-Ok-clause-gives

@@ -13,7 +13,7 @@ use Rattle.input_tables.specs.declared.cells.RowNumbers.{RowNumbers}
 use Rattle.input_tables.specs.Fleets.{header_of, without_blanks, vehicle_in, row_fields, checked, vehicle_of, is_in_range, stood_before, fleet_in, rows_behind}
 use Rattle.input_tables.specs.Streams.{largest_32, largest_moment}
 use Rattle.input_tables.specs.Rows.{IsHeaded, begins_header, headed_by, six_numbers, row_of, vehicle_by, ranged_by}
-use Rattle.input_tables.proofs.Cutting.{le_cut, within, first_of, rest_of}
+use Rattle.input_tables.proofs.Capped.{le_cut, within, first_of, rest_of}
 
 -- seven and more are neither five nor six
 not_five : (n : ℕ) → (suc (suc (suc (suc (suc (suc (suc n)))))) == 5) ≡ false

@@ -7,7 +7,7 @@ use Rattle.input_tables.specs.declared.lines.StreamLine.{StreamLine}
 use Rattle.input_tables.specs.declared.lines.StreamLine.TheVariants.{Ride}
 use Rattle.input_tables.specs.Numbers.{before, numbers_of, last_number_of, ride_with}
 use Rattle.input_tables.specs.Streams.{said_by, stream_line_of, ride_of, ranged_ride, are_in_range, request_of, largest_moment, largest_32}
-use Rattle.input_tables.proofs.Cutting.{le_cut, within, first_of, rest_of}
+use Rattle.input_tables.proofs.Capped.{le_cut, within, first_of, rest_of}
 
 -- cut numbers are in their ranges where the numbers are
 same_range : (a b c d e f : ℕ) → are_in_range (capped a) (capped b) (capped c) (capped d) (capped e) (capped f) ≡ are_in_range a b c d e f

@@ -14,8 +14,8 @@ use Rattle.input_tables.specs.Records.{SliceReader, unread, records_in, records_
 -- A record takes a byte at least, and leaves the machine between two records.
 
 -- a step that ends a record goes between two records
-abbrev Ends : State × Action → Type 0
-Ends p = is_end p.1 ≡ true → ends_at_end p.0 ≡ false
+abbrev EndsRecord : State × Action → Type 0
+EndsRecord p = is_end p.1 ≡ true → ends_at_end p.0 ≡ false
 
 ends_after : (t : Terminator) (c : ℕ) → ends_at_end (after_end t c) ≡ false
 ends_after term.CRLF c = by (c == carriage_return)
@@ -25,53 +25,53 @@ ends_after term.CRLF c = by (c == carriage_return)
     by false = refl
 ends_after (term.Any t) c = refl
 
-in_field_ends : (cfg : Config) (c : ℕ) → Ends (in_field cfg c)
+in_field_ends : (cfg : Config) (c : ℕ) → EndsRecord (in_field cfg c)
 in_field_ends cfg c = by (c == cfg.delimiter) (ends_with cfg.terminator c)
   where
-    by : (a b : Bool) → Ends (if a then (st.StartField, act.EndField) else if b then (after_end cfg.terminator c, act.EndRecord) else (st.InField, act.Copy))
+    by : (a b : Bool) → EndsRecord (if a then (st.StartField, act.EndField) else if b then (after_end cfg.terminator c, act.EndRecord) else (st.InField, act.Copy))
     by true b = λ h. cc
     by false true = λ h. ends_after cfg.terminator c
     by false false = λ h. cc
 
-start_field_ends : (cfg : Config) (c : ℕ) → Ends (start_field cfg c)
+start_field_ends : (cfg : Config) (c : ℕ) → EndsRecord (start_field cfg c)
 start_field_ends cfg c = by (cfg.quoting && (c == cfg.quote))
   where
-    by : (a : Bool) → Ends (if a then (st.InQuoted, act.Skip) else in_field cfg c)
+    by : (a : Bool) → EndsRecord (if a then (st.InQuoted, act.Skip) else in_field cfg c)
     by true = λ h. cc
     by false = in_field_ends cfg c
 
-start_record_ends : (cfg : Config) (c : ℕ) → Ends (start_record cfg c)
+start_record_ends : (cfg : Config) (c : ℕ) → EndsRecord (start_record cfg c)
 start_record_ends cfg c = by (ends_with cfg.terminator c) (is_byte cfg.comment c)
   where
-    by : (a b : Bool) → Ends (if a then (st.StartRecord, act.Skip) else if b then (st.InComment, act.Skip) else start_field cfg c)
+    by : (a b : Bool) → EndsRecord (if a then (st.StartRecord, act.Skip) else if b then (st.InComment, act.Skip) else start_field cfg c)
     by true b = λ h. cc
     by false true = λ h. cc
     by false false = start_field_ends cfg c
 
-step_ends : (cfg : Config) (s : State) (c : ℕ) → Ends (step cfg s c)
+step_ends : (cfg : Config) (s : State) (c : ℕ) → EndsRecord (step cfg s c)
 step_ends cfg st.StartRecord c = start_record_ends cfg c
 step_ends cfg st.StartField c = start_field_ends cfg c
 step_ends cfg st.InField c = in_field_ends cfg c
 step_ends cfg st.InQuoted c = by (cfg.quoting && (c == cfg.quote)) (cfg.quoting && is_byte cfg.escape c)
   where
-    by : (a b : Bool) → Ends (if a then (st.AfterQuote, act.Skip) else if b then (st.InEscape, act.Skip) else (st.InQuoted, act.Copy))
+    by : (a b : Bool) → EndsRecord (if a then (st.AfterQuote, act.Skip) else if b then (st.InEscape, act.Skip) else (st.InQuoted, act.Copy))
     by true b = λ h. cc
     by false true = λ h. cc
     by false false = λ h. cc
 step_ends cfg st.InEscape c = λ h. cc
 step_ends cfg st.AfterQuote c = by (cfg.quoting && cfg.double_quote && (c == cfg.quote))
   where
-    by : (a : Bool) → Ends (if a then (st.InQuoted, act.Copy) else in_field cfg c)
+    by : (a : Bool) → EndsRecord (if a then (st.InQuoted, act.Copy) else in_field cfg c)
     by true = λ h. cc
     by false = in_field_ends cfg c
 step_ends cfg st.InComment c = by (c == line_feed)
   where
-    by : (a : Bool) → Ends (if a then (st.StartRecord, act.Skip) else (st.InComment, act.Skip))
+    by : (a : Bool) → EndsRecord (if a then (st.StartRecord, act.Skip) else (st.InComment, act.Skip))
     by true = λ h. cc
     by false = λ h. cc
 step_ends cfg st.AfterCr c = by (c == line_feed)
   where
-    by : (a : Bool) → Ends (if a then (st.StartRecord, act.Skip) else start_record cfg c)
+    by : (a : Bool) → EndsRecord (if a then (st.StartRecord, act.Skip) else start_record cfg c)
     by true = λ h. cc
     by false = start_record_ends cfg c
 

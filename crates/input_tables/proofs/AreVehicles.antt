@@ -13,9 +13,9 @@ use Rattle.input_tables.specs.declared.faults.FleetFault.{FleetFault}
 use Rattle.input_tables.specs.Fleets.{without_blanks, vehicle_in, vehicles_in, fleet_in, ordered, is_in_range, stood_before, put_in, by_number, onto_vehicles, row_fields}
 use Rattle.input_tables.specs.Rows.{IsHeaded, entry_of, kept_of}
 use Rattle.input_tables.specs.Streams.{largest_32, largest_moment}
-use Rattle.input_tables.proofs.Cutting.{first_of, rest_of}
-use Rattle.input_tables.proofs.Going.{given, IsGiven}
-use Rattle.input_tables.proofs.Keeping.{any_sorted, sorted_more, first_false, rest_false}
+use Rattle.input_tables.proofs.Capped.{first_of, rest_of}
+use Rattle.input_tables.proofs.RowsSoFar.{given, IsGivenByRow}
+use Rattle.input_tables.proofs.Keeps.{any_sorted, sorted_more, first_false, rest_false}
 
 -- What a table gives are vehicles in their ranges, with numbers that rise.
 
@@ -93,13 +93,13 @@ length_sorted [] = refl
 length_sorted (v ∷ vs) = length_put v (by_number vs) ∙ ap suc (length_sorted vs)
 
 -- the vehicles of so many rows are as the board wants them
-record IsTable (nodes row : ℕ) (vehicles : List Vehicle) : Type 0 where
+record IsFleetTable (nodes row : ℕ) (vehicles : List Vehicle) : Type 0 where
   ranged : Ranged nodes vehicles
   rises : RisesFrom 0 (by_number vehicles)
   count : length vehicles + 1 ≡ row
   early : row ≤ most_vehicles + 1
 
-table_more : (nodes row : ℕ) (before : List Vehicle) (v : Vehicle) → IsTable nodes row before → IsGiven nodes row before v → IsTable nodes (row + 1) (before ++ v ∷ [])
+table_more : (nodes row : ℕ) (before : List Vehicle) (v : Vehicle) → IsFleetTable nodes row before → IsGivenByRow nodes row before v → IsFleetTable nodes (row + 1) (before ++ v ∷ [])
 table_more nodes row before v t g =
     let i = in_ranges nodes v g.ranged in
     let positive : 0 < v.no.0 = i.number in
@@ -113,14 +113,14 @@ table_more nodes row before v t g =
     }
 
 -- a table that is read to its end
-table_all : (spaces : Bool) (nodes row : ℕ) (before : List Vehicle) (rows : List (List (List ℕ))) (all : List Vehicle) → IsTable nodes row before → vehicles_in spaces nodes row before rows ≡ Ok all → (last : ℕ) × IsTable nodes last all
-table_all spaces nodes row before [] all t e = (row, subst (IsTable nodes row) (same_Some _ _ (ap result_ok e)) t)
+table_all : (spaces : Bool) (nodes row : ℕ) (before : List Vehicle) (rows : List (List (List ℕ))) (all : List Vehicle) → IsFleetTable nodes row before → vehicles_in spaces nodes row before rows ≡ Ok all → (last : ℕ) × IsFleetTable nodes last all
+table_all spaces nodes row before [] all t e = (row, subst (IsFleetTable nodes row) (same_Some _ _ (ap result_ok e)) t)
 table_all spaces nodes row before (fields ∷ rows) all t e =
     by (vehicle_in nodes row before (row_fields spaces (map without_blanks fields))) refl e (λ v u h. table_all spaces nodes (row + 1) (before ++ v ∷ []) rows all u h)
   where
     by : (r : Result Vehicle FleetFault) → vehicle_in nodes row before (row_fields spaces (map without_blanks fields)) ≡ r → onto_vehicles r (λ v. vehicles_in spaces nodes (row + 1) (before ++ v ∷ []) rows) ≡ Ok all
-        → ((v : Vehicle) → IsTable nodes (row + 1) (before ++ v ∷ []) → vehicles_in spaces nodes (row + 1) (before ++ v ∷ []) rows ≡ Ok all → (last : ℕ) × IsTable nodes last all)
-        → (last : ℕ) × IsTable nodes last all
+        → ((v : Vehicle) → IsFleetTable nodes (row + 1) (before ++ v ∷ []) → vehicles_in spaces nodes (row + 1) (before ++ v ∷ []) rows ≡ Ok all → (last : ℕ) × IsFleetTable nodes last all)
+        → (last : ℕ) × IsFleetTable nodes last all
     by (Ok v) i h more = more v (table_more nodes row before v t (given nodes row before (row_fields spaces (map without_blanks fields)) v i)) h
     by (Err why) i h more = absurd (cc)
 
@@ -141,7 +141,7 @@ neighbours_rise n (x ∷ y ∷ vs) r zero v w e f =
 neighbours_rise n (x ∷ y ∷ vs) r (suc k) v w e f = neighbours_rise x.no.0 (y ∷ vs) r.1 k v w e f
 
 -- the vehicles of a table, in the order of their numbers
-are_sorted : (nodes row : ℕ) (vehicles : List Vehicle) → IsTable nodes row vehicles → AreVehicles nodes (by_number vehicles)
+are_sorted : (nodes row : ℕ) (vehicles : List Vehicle) → IsFleetTable nodes row vehicles → AreVehicles nodes (by_number vehicles)
 are_sorted nodes row vehicles t =
     let count = t.count in
     let early : row ≤ most_vehicles + 1 = t.early in
@@ -152,7 +152,7 @@ are_sorted nodes row vehicles t =
       rising = neighbours_rise 0 (by_number vehicles) t.rises;
     }
 
-empty_table : (nodes : ℕ) → IsTable nodes 1 []
+empty_table : (nodes : ℕ) → IsFleetTable nodes 1 []
 empty_table nodes = record { ranged = tt; rises = tt; count = refl; early = omega arith }
 
 -- the vehicles that a table's rows give

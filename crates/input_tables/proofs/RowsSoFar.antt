@@ -12,7 +12,7 @@ use Rattle.input_tables.specs.declared.faults.FleetFault.{FleetFault}
 use Rattle.input_tables.specs.declared.faults.FleetFault.TheVariants.{Form, Range, Double}
 use Rattle.input_tables.specs.Fleets.{without_blanks, vehicle_in, vehicles_in, onto_vehicles, checked, vehicle_of, is_in_range, stood_before, row_fields}
 use Rattle.input_tables.specs.Rows.{Keeps, kept_of}
-use Rattle.input_tables.proofs.Cutting.{first_of, rest_of}
+use Rattle.input_tables.proofs.Capped.{first_of, rest_of}
 
 -- The rows that are read so far, and those that are left.
 
@@ -24,15 +24,15 @@ pub record RowsSoFar (spaces : Bool) (nodes row : ℕ) (kept : BTreeMap VehicleN
   pub early : row ≤ most_vehicles + 1
 
 -- what is known of a vehicle that a row gives
-pub record IsGiven (nodes row : ℕ) (before : List Vehicle) (v : Vehicle) : Type 0 where
+pub record IsGivenByRow (nodes row : ℕ) (before : List Vehicle) (v : Vehicle) : Type 0 where
   pub ranged : is_in_range nodes v ≡ true
   pub early : row ≤ most_vehicles
   pub new : stood_before before v ≡ false
 
-given_checked : (nodes row : ℕ) (before : List Vehicle) (v w : Vehicle) → checked nodes row before w ≡ Ok v → IsGiven nodes row before v
+given_checked : (nodes row : ℕ) (before : List Vehicle) (v w : Vehicle) → checked nodes row before w ≡ Ok v → IsGivenByRow nodes row before v
 given_checked nodes row before v w h = by (is_in_range nodes w && nat_le row most_vehicles) (stood_before before w) refl refl h
   where
-    by : (s t : Bool) → (is_in_range nodes w && nat_le row most_vehicles) ≡ s → stood_before before w ≡ t → cond s (cond t (Err (Double row)) (Ok w)) (Err (Range row)) ≡ Ok v → IsGiven nodes row before v
+    by : (s t : Bool) → (is_in_range nodes w && nat_le row most_vehicles) ≡ s → stood_before before w ≡ t → cond s (cond t (Err (Double row)) (Ok w)) (Err (Range row)) ≡ Ok v → IsGivenByRow nodes row before v
     by true true e f g = absurd (cc)
     by true false e f g =
         let same : w ≡ v = same_Some _ _ (ap result_ok g) in
@@ -44,11 +44,11 @@ given_checked nodes row before v w h = by (is_in_range nodes w && nat_le row mos
         }
     by false t e f g = absurd (cc)
 
-given_by : (nodes row : ℕ) (before : List Vehicle) (v w : Vehicle) (t : Bool) → cond t (checked nodes row before w) (Err (Form row)) ≡ Ok v → IsGiven nodes row before v
+given_by : (nodes row : ℕ) (before : List Vehicle) (v w : Vehicle) (t : Bool) → cond t (checked nodes row before w) (Err (Form row)) ≡ Ok v → IsGivenByRow nodes row before v
 given_by nodes row before v w true h = given_checked nodes row before v w h
 given_by nodes row before v w false h = absurd (cc)
 
-pub given : (nodes row : ℕ) (before : List Vehicle) (fields : List (List ℕ)) (v : Vehicle) → vehicle_in nodes row before fields ≡ Ok v → IsGiven nodes row before v
+pub given : (nodes row : ℕ) (before : List Vehicle) (fields : List (List ℕ)) (v : Vehicle) → vehicle_in nodes row before fields ≡ Ok v → IsGivenByRow nodes row before v
 given nodes row before [] v h = absurd (cc)
 given nodes row before (a ∷ []) v h = absurd (cc)
 given nodes row before (a ∷ b ∷ []) v h = absurd (cc)
