@@ -4,8 +4,8 @@ use Rattle.road_graph.specs.declared.road.NodeNo.{NodeNo}
 use Rattle.road_graph.specs.Roads.{node}
 use Rattle.upward_search.specs.Chains.{arc}
 use Rattle.contraction.specs.Removing.{HasChain, IsShortcut}
-use Rattle.contraction.proofs.Having.{has_one, has_append}
-use Rattle.contraction.proofs.Filtering.{in_more, in_first}
+use Rattle.contraction.proofs.HasChain.{has_one, has_append}
+use Rattle.contraction.proofs.Contains.{in_more, in_first}
 
 -- node 2 of a line of three, removed
 shortcut_over_two : IsShortcut 100 (Contains (arc 1 2 10 None ∷ arc 2 3 7 None ∷ [])) (node 2) (arc 1 3 17 (Some (node 2)))

@@ -3,7 +3,7 @@ use Rattle.road_graph.specs.declared.road.NodeNo.{NodeNo}
 use Rattle.upward_search.specs.declared.arc.RankArc.{RankArc}
 use Rattle.contraction.specs.declared.search.Search.{Search}
 use Rattle.contraction.specs.Removing.{HasChain, IsBridge, AreBridged, IsEither}
-use Rattle.contraction.specs.Standing.{Stands}
+use Rattle.contraction.specs.Rows.{Stands}
 use Rattle.contraction.specs.Searching.{IsSearch}
 
 -- each arc is shorter than far

@@ -1,6 +1,6 @@
 pub mod Removing
 pub mod Bridging
-pub mod Standing
+pub mod Rows
 pub mod Searching
 pub mod Working
 pub mod Starting

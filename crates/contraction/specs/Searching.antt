@@ -6,7 +6,7 @@ use Rattle.contraction.specs.declared.queue.Candidate.{Candidate}
 use Rattle.contraction.specs.declared.search.Mark.{Mark}
 use Rattle.contraction.specs.declared.search.Search.{Search}
 use Rattle.contraction.specs.Removing.{HasChain}
-use Rattle.contraction.specs.Standing.{Stands}
+use Rattle.contraction.specs.Rows.{Stands}
 
 -- the mark of a node
 abbrev pub mark_of : List Mark → NodeNo → Mark

@@ -6,7 +6,7 @@ use Rattle.upward_search.specs.declared.arc.RankArc.{RankArc}
 use Rattle.contraction.specs.declared.rows.End.TheVariants.{From, To}
 use Rattle.contraction.specs.declared.work.Work.{Work}
 use Rattle.contraction.specs.Removing.{IsContracting}
-use Rattle.contraction.specs.Standing.{row_of, AreStanding, AreSound, Stands}
+use Rattle.contraction.specs.Rows.{row_of, AreStanding, AreSound, Stands}
 
 -- so many nodes of the graph have been removed
 pub record IsWork (g : Roads) (count : ℕ) (w : Work) : Type 0 where

@@ -1,6 +1,6 @@
 ghost use Rattle.std.specs.Prelude.{◌≡◌, ◌^◌, ◌<◌, ◌++◌, length, IfOk, OnOk, MatchBool, option_to_list};
 ghost use Rattle.contraction.specs.declared.rows.End.TheVariants.{From};
-ghost use Rattle.contraction.specs.Standing.{Stands, IsHere, AreHere, AreSound};
+ghost use Rattle.contraction.specs.Rows.{Stands, IsHere, AreHere, AreSound};
 ghost use Rattle.contraction.specs.Searching.{IsMarked};
 ghost use Rattle.contraction.specs.Bridging.{AreLight, BridgesBy, AreFrom, AreBridges, IsSpared, IsWanted};
 

@@ -1,6 +1,6 @@
 ghost use Rattle.std.specs.Prelude.{◌≡◌, ◌+◌, ◌<◌, length, IfOk};
 ghost use Rattle.contraction.specs.Searching.{IsMarked};
-ghost use Rattle.contraction.specs.Standing.{AreHere};
+ghost use Rattle.contraction.specs.Rows.{AreHere};
 ghost use Rattle.contraction.specs.Working.{AreRows};
 
 use crate::bridge::count_from;

@@ -1,5 +1,5 @@
 ghost use Rattle.std.specs.Prelude.{◌≡◌, ◌<◌, OnOk, filter, length, [], slice_set};
-ghost use Rattle.contraction.specs.Standing.{near_end, far_end, leads_elsewhere, is_beside, row_of, AreDetached, IsAttached, AreStanding, AreHere, ArePut};
+ghost use Rattle.contraction.specs.Rows.{near_end, far_end, leads_elsewhere, is_beside, row_of, AreDetached, IsAttached, AreStanding, AreHere, ArePut};
 
 use ride_base::{Items, NoMemory};
 use road_graph::NodeNo;

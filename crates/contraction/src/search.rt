@@ -1,6 +1,6 @@
 ghost use Rattle.std.specs.Prelude.{◌≡◌, ◌+◌, ◌^◌, ◌<◌, ◌≤◌, length, IfOk, OnOk, IsTrue};
 ghost use Rattle.contraction.specs.declared.rows.End.TheVariants.{From};
-ghost use Rattle.contraction.specs.Standing.{AreSound};
+ghost use Rattle.contraction.specs.Rows.{AreSound};
 ghost use Rattle.contraction.specs.Searching.{AreUnset, IsMarked, IsUnmarked, IsSearch, IsSearchOfAny, IsLed, IsReached, Admits};
 
 use crate::queue::{Candidate, Queue};

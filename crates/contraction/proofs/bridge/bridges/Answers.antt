@@ -1,7 +1,7 @@
 use Rattle.std.proofs.Common.{◌^◌}
-use Rattle.contraction.specs.Standing.{Stands}
-use Rattle.contraction.proofs.Standing.{here_at}
-use Rattle.contraction.proofs.Bridging.{bridges_step}
+use Rattle.contraction.specs.Rows.{Stands}
+use Rattle.contraction.proofs.AreStanding.{here_at}
+use Rattle.contraction.proofs.AreBridges.{bridges_step}
 use Rattle.contraction.proofs.bridge.bridges.Goals as goal
 
 pub bridges_from-requires-clause-down : goal.bridges_from-requires-clause-down

@@ -1,5 +1,5 @@
 use Rattle.std.proofs.Common.{take, length, ◌^◌}
-use Rattle.contraction.specs.Standing.{Stands}
+use Rattle.contraction.specs.Rows.{Stands}
 use Rattle.contraction.specs.Bridging.{AreBridges}
 use Rattle.contraction.specs.Searching.{IsMarked}
 use Rattle.contraction.proofs.bridge.bridges.Given as goal

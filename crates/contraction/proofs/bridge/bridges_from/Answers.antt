@@ -1,7 +1,7 @@
 use Rattle.std.proofs.Common.{◌^◌}
-use Rattle.contraction.specs.Standing.{Stands}
-use Rattle.contraction.proofs.Standing.{here_at}
-use Rattle.contraction.proofs.Bridging.{from_step}
+use Rattle.contraction.specs.Rows.{Stands}
+use Rattle.contraction.proofs.AreStanding.{here_at}
+use Rattle.contraction.proofs.AreBridges.{from_step}
 use Rattle.contraction.proofs.bridge.bridges_from.Goals as goal
 
 pub longest-requires-clause-ups : goal.longest-requires-clause-ups

@@ -1,5 +1,5 @@
 use Rattle.std.proofs.Common.{take, ◌^◌}
-use Rattle.contraction.specs.Standing.{Stands}
+use Rattle.contraction.specs.Rows.{Stands}
 use Rattle.contraction.specs.Bridging.{AreFrom}
 use Rattle.contraction.proofs.bridge.bridges_from.Given as goal
 

@@ -1,4 +1,4 @@
-use Rattle.contraction.proofs.Standing.{here_at}
+use Rattle.contraction.proofs.AreStanding.{here_at}
 use Rattle.contraction.proofs.bridge.count_from.Goals as goal
 
 pub longest-requires-clause-ups : goal.longest-requires-clause-ups

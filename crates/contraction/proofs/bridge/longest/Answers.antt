@@ -1,6 +1,6 @@
 use Rattle.std.proofs.Common.{arith}
 use Rattle.std.proofs.lemmas.List.Elements.{Contains-get_or}
-use Rattle.contraction.proofs.Having.{no_arc}
+use Rattle.contraction.proofs.HasChain.{no_arc}
 use Rattle.contraction.proofs.bridge.longest.Goals as goal
 
 pub overflow_add-length : goal.overflow_add-length

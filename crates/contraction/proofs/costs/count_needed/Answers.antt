@@ -1,6 +1,6 @@
 use Rattle.std.proofs.Common.{◌∙◌, ◌<◌, ap, sym, arith, length}
 use Rattle.contraction.specs.declared.rows.End.TheVariants.{From, To}
-use Rattle.contraction.proofs.Standing.{here_same, here_at, row_read, sound_row}
+use Rattle.contraction.proofs.AreStanding.{here_same, here_at, row_read, sound_row}
 use Rattle.contraction.proofs.costs.count_needed.Goals as goal
 
 pub count_from-requires-clause-down : goal.count_from-requires-clause-down

@@ -2,7 +2,7 @@ use Rattle.std.proofs.Common.{◌+◌, refl}
 use Rattle.std.proofs.lemmas.List.Sorted.{IsPermutation-map}
 use Rattle.contraction.specs.declared.queue.Candidate.{Candidate}
 use Rattle.contraction.specs.Queues.{nodes_of}
-use Rattle.contraction.proofs.Ordering.{numbers_more}
+use Rattle.contraction.proofs.AreWaiting.{numbers_more}
 use Rattle.contraction.proofs.order.first_order.Goals as goal
 
 pub loop-number-preserved : goal.loop-number-preserved

@@ -1,8 +1,8 @@
 use Rattle.std.proofs.Common.{◌∙◌, length, arith}
 use Rattle.std.proofs.lemmas.List.Sorted.{length_permutation}
 use Rattle.contraction.specs.Queues.{nodes_of}
-use Rattle.contraction.proofs.Working.{rows_of_work}
-use Rattle.contraction.proofs.Ordering.{all_wait, first_waits, fewer_wait, rows_for}
+use Rattle.contraction.proofs.IsWork.{rows_of_work}
+use Rattle.contraction.proofs.AreWaiting.{all_wait, first_waits, fewer_wait, rows_for}
 use Rattle.contraction.proofs.order.remove_all.Goals as goal
 
 pub first_order-requires-clause-rows : goal.first_order-requires-clause-rows

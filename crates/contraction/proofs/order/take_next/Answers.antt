@@ -1,5 +1,5 @@
 use Rattle.std.proofs.Common.{length}
-use Rattle.contraction.proofs.Ordering.{taken_first, taken_below, put_back, none_taken}
+use Rattle.contraction.proofs.AreWaiting.{taken_first, taken_below, put_back, none_taken}
 use Rattle.contraction.proofs.order.take_next.Goals as goal
 
 pub returns-in_default-clause-taken : goal.returns-in_default-clause-taken

@@ -2,8 +2,8 @@ use Rattle.std.proofs.Common.{◌∙◌, ◌++◌, ◌∷◌, [], ◌<◌, lengt
 use Rattle.std.specs.List.{filter}
 use Rattle.road_graph.specs.declared.road.NodeNo.{NodeNo}
 use Rattle.upward_search.specs.declared.arc.RankArc.{RankArc}
-use Rattle.contraction.specs.Standing.{is_beside, IsAttached}
-use Rattle.contraction.proofs.Standing.{attached, row_back}
+use Rattle.contraction.specs.Rows.{is_beside, IsAttached}
+use Rattle.contraction.proofs.AreStanding.{attached, row_back}
 use Rattle.contraction.proofs.rows.attach.Goals as goal
 
 pub returns : goal.returns

@@ -1,8 +1,8 @@
 use Rattle.std.proofs.Common.{◌∙◌, ◌+◌, [], List, ap, sym, subst, length, take, arith, length-set}
 use Rattle.std.specs.List.{filter}
 use Rattle.upward_search.specs.declared.arc.RankArc.{RankArc}
-use Rattle.contraction.specs.Standing.{leads_elsewhere, AreDetached}
-use Rattle.contraction.proofs.Standing.{detached_none, detached_step, near_within, row_back}
+use Rattle.contraction.specs.Rows.{leads_elsewhere, AreDetached}
+use Rattle.contraction.proofs.AreStanding.{detached_none, detached_step, near_within, row_back}
 use Rattle.contraction.proofs.rows.detach.Goals as goal
 
 pub loop-arc-init : goal.loop-arc-init

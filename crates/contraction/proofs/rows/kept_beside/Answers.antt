@@ -1,7 +1,7 @@
 use Rattle.std.proofs.Common.{◌∙◌, ap, rules}
 use Rattle.std.specs.List.{filter}
 use Rattle.std.proofs.lemmas.Fn.{filter_same}
-use Rattle.contraction.specs.Standing.{is_beside}
+use Rattle.contraction.specs.Rows.{is_beside}
 use Rattle.contraction.proofs.rows.kept_beside.Goals as goal
 
 pub returns : goal.returns

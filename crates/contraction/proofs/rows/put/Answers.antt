@@ -1,5 +1,5 @@
 use Rattle.std.proofs.Common.{arith}
-use Rattle.contraction.proofs.Standing.{put_none, put_step, here_at}
+use Rattle.contraction.proofs.AreStanding.{put_none, put_step, here_at}
 use Rattle.contraction.proofs.rows.put.Goals as goal
 
 pub loop-arc-init : goal.loop-arc-init

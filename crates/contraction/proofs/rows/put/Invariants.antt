@@ -1,5 +1,5 @@
 use Rattle.std.proofs.Common.{take}
-use Rattle.contraction.specs.Standing.{ArePut}
+use Rattle.contraction.specs.Rows.{ArePut}
 use Rattle.contraction.proofs.rows.put.Given as goal
 
 abbrev pub invariant-loop-arc : goal.invariant-loop-arc

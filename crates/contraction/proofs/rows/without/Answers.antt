@@ -1,7 +1,7 @@
 use Rattle.std.proofs.Common.{◌∙◌, ap, rules}
 use Rattle.std.specs.List.{filter}
 use Rattle.std.proofs.lemmas.Fn.{filter_same}
-use Rattle.contraction.specs.Standing.{leads_elsewhere}
+use Rattle.contraction.specs.Rows.{leads_elsewhere}
 use Rattle.contraction.proofs.rows.without.Goals as goal
 
 pub returns : goal.returns

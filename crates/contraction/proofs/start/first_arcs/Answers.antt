@@ -1,5 +1,5 @@
 use Rattle.std.proofs.Common.{◌+◌, ◌∙◌, refl, arith}
-use Rattle.contraction.proofs.Starting.{first_none, first_more}
+use Rattle.contraction.proofs.AreFirst.{first_none, first_more}
 use Rattle.contraction.proofs.start.first_arcs.Goals as goal
 
 pub loop-number-init : goal.loop-number-init

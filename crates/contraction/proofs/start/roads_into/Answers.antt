@@ -1,5 +1,5 @@
 use Rattle.std.proofs.Common.{◌∙◌, ap, arith, ℕ}
-use Rattle.contraction.proofs.Starting.{into_more}
+use Rattle.contraction.proofs.AreFirst.{into_more}
 use Rattle.contraction.proofs.start.roads_into.Goals as goal
 
 pub loop-index-preserved : goal.loop-index-preserved

@@ -1,4 +1,4 @@
-use Rattle.contraction.proofs.Working.{empty_more}
+use Rattle.contraction.proofs.IsWork.{empty_more}
 use Rattle.contraction.proofs.work.empty_rows.Goals as goal
 
 pub empty-preserved : goal.empty-preserved

@@ -1,6 +1,6 @@
 use Rattle.std.proofs.Common.{◌∙◌, ◌<◌, sym, arith, length}
 use Rattle.contraction.specs.declared.rows.End.TheVariants.{From, To}
-use Rattle.contraction.proofs.Standing.{here_same, row_read, sound_row}
+use Rattle.contraction.proofs.AreStanding.{here_same, row_read, sound_row}
 use Rattle.contraction.proofs.costs.Depths.deepen.Goals as goal
 
 pub raise-requires : goal.raise-requires

@@ -1,5 +1,5 @@
 use Rattle.std.proofs.Common.{length, arith}
-use Rattle.contraction.proofs.Standing.{far_within}
+use Rattle.contraction.proofs.AreStanding.{far_within}
 use Rattle.contraction.proofs.costs.Depths.raise.Goals as goal
 
 pub index-requires : goal.index-requires

@@ -1,5 +1,5 @@
 use Rattle.std.proofs.Common.{refl}
-use Rattle.contraction.proofs.Reaching.{admitted}
+use Rattle.contraction.proofs.IsSearch.{admitted}
 use Rattle.contraction.proofs.search.Search.offer.Goals as goal
 
 pub returns-clause-admits : goal.returns-clause-admits

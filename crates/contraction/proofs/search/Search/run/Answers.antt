@@ -1,5 +1,5 @@
 use Rattle.std.proofs.Common.{refl, sym}
-use Rattle.contraction.proofs.Reaching.{popped, popped_none}
+use Rattle.contraction.proofs.IsSearch.{popped, popped_none}
 use Rattle.contraction.proofs.search.Search.run.Goals as goal
 
 pub taking-init : goal.taking-init

@@ -2,8 +2,8 @@ use Rattle.std.proofs.Common.{◌∙◌, ap, sym, subst, arith}
 use Rattle.road_graph.specs.declared.road.NodeNo.{NodeNo}
 use Rattle.contraction.specs.declared.search.Search.{Search}
 use Rattle.contraction.specs.Searching.{IsSearch, IsLed}
-use Rattle.contraction.proofs.Standing.{row_read}
-use Rattle.contraction.proofs.Reaching.{led_on, light_at}
+use Rattle.contraction.proofs.AreStanding.{row_read}
+use Rattle.contraction.proofs.IsSearch.{led_on, light_at}
 use Rattle.contraction.proofs.search.Search.spread.Goals as goal
 use Rattle.contraction.proofs.search.Search.spread.Goals.{then-ne+then-key-most+in_ok-offer, else-ne}
 

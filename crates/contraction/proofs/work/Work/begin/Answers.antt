@@ -1,5 +1,5 @@
 use Rattle.std.proofs.Common.{◌≡◌, ◌+◌, ◌∙◌, sym, replicate}
-use Rattle.contraction.proofs.Working.{empty_standing, first_here, work_begun}
+use Rattle.contraction.proofs.IsWork.{empty_standing, first_here, work_begun}
 use Rattle.contraction.proofs.work.Work.begin.Goals as goal
 
 pub put-requires-clause-standing : goal.put-requires-clause-standing

@@ -1,7 +1,7 @@
 use Rattle.std.proofs.Common.{◌∙◌, ◌+◌, [], ap, sym, length, length-set, arith}
-use Rattle.contraction.specs.Standing.{Stands}
-use Rattle.contraction.proofs.Standing.{here_same}
-use Rattle.contraction.proofs.Working.{set_rank, out_row_here, in_row_here, work_cleared, bridges_here, work_step}
+use Rattle.contraction.specs.Rows.{Stands}
+use Rattle.contraction.proofs.AreStanding.{here_same}
+use Rattle.contraction.proofs.IsWork.{set_rank, out_row_here, in_row_here, work_cleared, bridges_here, work_step}
 use Rattle.contraction.proofs.work.Work.remove.Goals as goal
 
 pub detach-requires : goal.detach-requires

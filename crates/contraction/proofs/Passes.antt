@@ -4,7 +4,7 @@ use Rattle.upward_search.specs.declared.arc.RankArc.{RankArc}
 use Rattle.upward_search.specs.Chains.{total, IsChain}
 use Rattle.upward_search.proofs.ChainLaws.{chain_rest}
 use Rattle.contraction.specs.Removing.{HasChain, IsOut, IsIn, IsAside}
-use Rattle.contraction.proofs.Having.{same_or_not, has_none, has_one, has_append}
+use Rattle.contraction.proofs.HasChain.{same_or_not, has_none, has_one, has_append}
 
 -- arcs that are left after k is removed, then maybe one into k
 pub record Onward (k : NodeNo) (Left Other : RankArc → Type 0) (u v : NodeNo) (x : ℕ) : Type 0 where

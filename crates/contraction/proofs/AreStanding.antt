@@ -10,9 +10,9 @@ use Rattle.road_graph.proofs.WalkLaws.{same_node}
 use Rattle.upward_search.specs.declared.arc.RankArc.{RankArc}
 use Rattle.contraction.specs.declared.rows.End.{End}
 use Rattle.contraction.specs.declared.rows.End.TheVariants.{From, To}
-use Rattle.contraction.specs.Standing.{near_end, far_end, leads_elsewhere, is_beside, row_of, AreDetached, IsAttached, AreStanding, Stands, HasNoLonger, ArePut, IsHere, AreHere, AreSound}
-use Rattle.contraction.proofs.Having.{no_arc, same_or_not}
-use Rattle.contraction.proofs.Filtering.{filter_from, filter_has}
+use Rattle.contraction.specs.Rows.{near_end, far_end, leads_elsewhere, is_beside, row_of, AreDetached, IsAttached, AreStanding, Stands, HasNoLonger, ArePut, IsHere, AreHere, AreSound}
+use Rattle.contraction.proofs.HasChain.{no_arc, same_or_not}
+use Rattle.contraction.proofs.Contains.{filter_from, filter_has}
 
 -- one row written
 pub row_set : (rows : List (List RankArc)) (p : NodeNo) (row : List RankArc) → p.0 < length rows → (n : NodeNo) → ((n ≡ p) × (row_of (set rows p.0 row) n ≡ row)) ⊎ ((n ≢ p) × (row_of (set rows p.0 row) n ≡ row_of rows n))

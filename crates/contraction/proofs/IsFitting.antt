@@ -10,7 +10,7 @@ use Rattle.upward_search.specs.Chains.{IsChain}
 use Rattle.upward_search.specs.Fitting.{rank_of, Meets, IsFitting}
 use Rattle.upward_search.proofs.ChainLaws.{meets_at}
 use Rattle.contraction.specs.Removing.{HasChain, IsContracting}
-use Rattle.contraction.proofs.Having.{has_over}
+use Rattle.contraction.proofs.HasChain.{has_over}
 
 module _ (g : Roads) (lawful : IsGraph g) (far : ℕ) (ranks : List ℕ) (climbing : List RankArc) (Left : RankArc → Type 0) (falling : List RankArc) (count : ℕ) (s : IsContracting g far ranks count climbing Left falling)
     (all : (n : NodeNo) → IsNode g n → rank_of ranks n < count) (short : (u v : NodeNo) (x : ℕ) → IsDist g u v x → x < far) where

@@ -7,10 +7,10 @@ use Rattle.contraction.specs.declared.rows.End.{End}
 use Rattle.contraction.specs.declared.rows.End.TheVariants.{From, To}
 use Rattle.contraction.specs.Removing.{HasChain, IsOut, IsIn, IsAside, IsShortcut, IsRemoved, IsBridge, IsEither}
 use Rattle.contraction.specs.Bridging.{AreBridges}
-use Rattle.contraction.specs.Standing.{near_end, far_end, row_of, AreDetached, AreStanding, Stands, HasNoLonger, ArePut}
-use Rattle.contraction.proofs.Having.{has_one, has_over}
-use Rattle.contraction.proofs.Bridging.{none_contained}
-use Rattle.contraction.proofs.Standing.{row_set}
+use Rattle.contraction.specs.Rows.{near_end, far_end, row_of, AreDetached, AreStanding, Stands, HasNoLonger, ArePut}
+use Rattle.contraction.proofs.HasChain.{has_one, has_over}
+use Rattle.contraction.proofs.AreBridges.{none_contained}
+use Rattle.contraction.proofs.AreStanding.{row_set}
 
 -- rows without the arcs of k
 module _ (end : End) (k : NodeNo) (arcs : List RankArc) (old new : List (List RankArc)) (in' : k.0 < length old)

@@ -10,11 +10,11 @@ use Rattle.upward_search.specs.Fitting.{rank_of, IsFitting}
 use Rattle.contraction.specs.declared.queue.Candidate.{Candidate}
 use Rattle.contraction.specs.declared.work.Work.{Work}
 use Rattle.contraction.specs.Queues.{AreBelow, nodes_of}
-use Rattle.contraction.specs.Standing.{Stands}
+use Rattle.contraction.specs.Rows.{Stands}
 use Rattle.contraction.specs.Working.{IsWork, AllDone, AreNumbers, IsNext, AreWaiting, AreRows}
-use Rattle.contraction.proofs.Filtering.{in_cons, in_more, in_first}
-use Rattle.contraction.proofs.Fitting.{contracted}
-use Rattle.contraction.proofs.Working.{rows_of_work}
+use Rattle.contraction.proofs.Contains.{in_cons, in_more, in_first}
+use Rattle.contraction.proofs.IsFitting.{contracted}
+use Rattle.contraction.proofs.IsWork.{rows_of_work}
 
 -- one number more
 pub numbers_more : (i : ℕ) (old new : List NodeNo) (m : NodeNo) → AreNumbers i old → m.0 ≡ i + 1 → IsPermutation (m ∷ old) new → AreNumbers (i + 1) new

@@ -11,10 +11,10 @@ use Rattle.contraction.specs.declared.rows.End.TheVariants.{From}
 use Rattle.contraction.specs.declared.search.Mark.{Mark}
 use Rattle.contraction.specs.declared.search.Search.{Search}
 use Rattle.contraction.specs.Removing.{HasChain}
-use Rattle.contraction.specs.Standing.{row_of, Stands, AreSound}
+use Rattle.contraction.specs.Rows.{row_of, Stands, AreSound}
 use Rattle.contraction.specs.Searching.{mark_of, IsUnmarked, IsLed, IsSearch, IsReached, Admits}
-use Rattle.contraction.proofs.Having.{no_arc, same_or_not, has_none, has_one, has_append}
-use Rattle.contraction.proofs.Filtering.{in_cons, in_more, in_first}
+use Rattle.contraction.proofs.HasChain.{no_arc, same_or_not, has_none, has_one, has_append}
+use Rattle.contraction.proofs.Contains.{in_cons, in_more, in_first}
 
 -- one mark written
 mark_set : (marks : List Mark) (p : NodeNo) (m : Mark) → p.0 < length marks → (n : NodeNo) → ((n ≡ p) × (mark_of (set marks p.0 m) n ≡ m)) ⊎ ((n ≢ p) × (mark_of (set marks p.0 m) n ≡ mark_of marks n))

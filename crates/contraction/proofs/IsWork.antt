@@ -13,15 +13,15 @@ use Rattle.contraction.specs.declared.work.Work.{Work}
 use Rattle.contraction.specs.declared.rows.End.TheVariants.{From, To}
 use Rattle.contraction.specs.Removing.{HasChain, IsNextRank, IsContracting}
 use Rattle.contraction.specs.Bridging.{AreBridges}
-use Rattle.contraction.specs.Standing.{row_of, AreDetached, AreStanding, AreSound, Stands, IsHere, AreHere, ArePut}
+use Rattle.contraction.specs.Rows.{row_of, AreDetached, AreStanding, AreSound, Stands, IsHere, AreHere, ArePut}
 use Rattle.contraction.specs.Starting.{AreFirst}
 use Rattle.contraction.specs.Working.{IsWork, AreRows, AreEmpty}
-use Rattle.contraction.proofs.Having.{has_one}
-use Rattle.contraction.proofs.Bridging.{none_contained}
-use Rattle.contraction.proofs.Starting.{begun}
-use Rattle.contraction.proofs.Fitting.{fewer_left}
-use Rattle.contraction.proofs.Stepping.{next_contracting}
-use Rattle.contraction.proofs.Clearing.{out_cleared, cleared_standing, removed_rows}
+use Rattle.contraction.proofs.HasChain.{has_one}
+use Rattle.contraction.proofs.AreBridges.{none_contained}
+use Rattle.contraction.proofs.AreFirst.{begun}
+use Rattle.contraction.proofs.IsFitting.{fewer_left}
+use Rattle.contraction.proofs.IsContracting.{next_contracting}
+use Rattle.contraction.proofs.ClearedRows.{out_cleared, cleared_standing, removed_rows}
 
 -- a rank written at a node's number
 pub set_rank : (ranks : List ℕ) (k : NodeNo) (count : ℕ) → k.0 < length ranks → IsNextRank ranks (slice_set ranks k.0 count) k count

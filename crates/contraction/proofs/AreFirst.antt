@@ -12,8 +12,8 @@ use Rattle.upward_search.specs.declared.arc.RankArc.{RankArc}
 use Rattle.upward_search.specs.Fitting.{rank_of, IsMadeOver}
 use Rattle.contraction.specs.Removing.{HasChain, IsContracting}
 use Rattle.contraction.specs.Starting.{road_arc, IsRoadArc, IsFirst, AreInto, AreFirst}
-use Rattle.contraction.proofs.Having.{same_or_not, has_none, has_one, has_append}
-use Rattle.contraction.proofs.Bridging.{none_contained}
+use Rattle.contraction.proofs.HasChain.{same_or_not, has_none, has_one, has_append}
+use Rattle.contraction.proofs.AreBridges.{none_contained}
 
 pub into_none : (g : Roads) (v : NodeNo) (old : List RankArc) → AreInto g v 0 old old
 into_none g v old = record { kept = λ a h. h; made = λ a h. inl h; each = λ j u w lt at ne road. absurd (omega arith) }
