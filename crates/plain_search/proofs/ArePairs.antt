@@ -84,25 +84,25 @@ pub all_pairs : (listed : List Reached) (marks : List Mark) → ArePlaces listed
 all_pairs listed marks places pairs i end p n = ⊎_elim (p.low n) (λ b. p.high n b ∙ sym (unlisted listed marks places n (λ k e. (let q = get_or_past marks n.0 Unseen (omega arith) in cc)))) (cases_lt n.0 i)
 
 -- the place that a mark tells is one of the list
-pub place_within : (listed read : List Reached) (marks seen : List Mark) → ArePlaces listed marks → read ≡ listed → seen ≡ marks → (i k : ℕ) → get_or seen i Unseen ≡ Settled k → k < length read
-place_within listed read marks seen places er es i k e =
-    let st = places.stands (record { 0 = i }) k (ap (λ (ms : List Mark). get_or ms i Unseen) (sym es) ∙ e) in
+pub place_within : (listed read : List Reached) (marks : List Mark) → ArePlaces listed marks → read ≡ listed → (i k : ℕ) → get_or marks i Unseen ≡ Settled k → k < length read
+place_within listed read marks places er i k e =
+    let st = places.stands (record { 0 = i }) k e in
     let w = slice_get_within listed k st.0 st.1 in
     let l = ap length er in
     omega arith
 
 -- a step of the loop that takes the pairs from the marks
-pub more_pairs : (listed read : List Reached) (marks seen : List Mark) → ArePlaces listed marks → read ≡ listed → seen ≡ marks → (pairs new : List (NodeNo × ℕ)) (i k : ℕ) (d : Reached) → ArePairs listed pairs i
-    → get_or seen i Unseen ≡ Settled k → new ≡ pairs ++ ((get_or read k d).node, (get_or read k d).distance) ∷ [] → ArePairs listed new (i + 1)
-more_pairs listed read marks seen places er es pairs new i k d p e made =
-    let st = places.stands (record { 0 = i }) k (ap (λ (ms : List Mark). get_or ms i Unseen) (sym es) ∙ e) in
+pub more_pairs : (listed read : List Reached) (marks : List Mark) → ArePlaces listed marks → read ≡ listed → (pairs new : List (NodeNo × ℕ)) (i k : ℕ) (d : Reached) → ArePairs listed pairs i
+    → get_or marks i Unseen ≡ Settled k → new ≡ pairs ++ ((get_or read k d).node, (get_or read k d).distance) ∷ [] → ArePairs listed new (i + 1)
+more_pairs listed read marks places er pairs new i k d p e made =
+    let st = places.stands (record { 0 = i }) k e in
     let here : get_or read k d ≡ st.0 = ap (λ (rs : List Reached). get_or rs k d) er ∙ get_or_from_slice_get listed k st.0 d st.1 in
     let number : (get_or read k d).node.0 ≡ i = ap (λ (r : Reached). r.node.0) here ∙ ap (λ (n : NodeNo). n.0) st.2 in
     let has : distance_of listed (get_or read k d).node ≡ Some (get_or read k d).distance = stands_distance listed marks places (get_or read k d).node k (get_or read k d, st.1 ∙ ap Some (sym here), refl) in
     subst (λ (ps : List (NodeNo × ℕ)). ArePairs listed ps (i + 1)) (sym made) (push_pair listed pairs i p ((get_or read k d).node, (get_or read k d).distance) number has)
 
-pub same_pairs : (listed : List Reached) (marks seen : List Mark) → ArePlaces listed marks → seen ≡ marks → (pairs new : List (NodeNo × ℕ)) (i : ℕ) → ArePairs listed pairs i
-    → ((k : ℕ) → get_or seen i Unseen ≡ Settled k → ⊥) → new ≡ pairs → ArePairs listed new (i + 1)
-same_pairs listed marks seen places es pairs new i p never made =
+pub same_pairs : (listed : List Reached) (marks : List Mark) → ArePlaces listed marks → (pairs new : List (NodeNo × ℕ)) (i : ℕ) → ArePairs listed pairs i
+    → ((k : ℕ) → get_or marks i Unseen ≡ Settled k → ⊥) → new ≡ pairs → ArePairs listed new (i + 1)
+same_pairs listed marks places pairs new i p never made =
     subst (λ (ps : List (NodeNo × ℕ)). ArePairs listed ps (i + 1)) (sym made)
-    (pass_pair listed pairs i p (λ n e. unlisted listed marks places n (λ k m. never k (ap (λ (ms : List Mark). get_or ms i Unseen) es ∙ ap (λ j. get_or marks j Unseen) (sym e) ∙ m))))
+    (pass_pair listed pairs i p (λ n e. unlisted listed marks places n (λ k m. never k (ap (λ j. get_or marks j Unseen) (sym e) ∙ m))))

@@ -59,8 +59,8 @@ so_far g lawful s h = record {
   start = IsNode-from_faced s.way g s.start h.node;
   exact = λ n x e. (let f = found s.reached n x e in
       dist_by s.way g lawful s.start n x (subst (λ (m : NodeNo). IsDist (faced s.way g) m s.start x) f.3 (subst (λ (y : ℕ). IsDist (faced s.way g) f.1.node s.start y) f.4 (h.exact f.0 f.1 f.2))));
-  each = λ k r at. stands_distance s.reached s.marks.items h.places r.node k (r, at, refl);
-  once = listed_once s.reached s.marks.items h.places;
+  each = λ k r at. stands_distance s.reached s.marks h.places r.node k (r, at, refl);
+  once = listed_once s.reached s.marks h.places;
   rising = h.rising;
   back = λ k r at. back_by s.way g s.start s.reached k r (h.back k r at);
 }
@@ -79,7 +79,7 @@ finished g lawful s h all empty = record {
     bound : (n : NodeNo) → distance_of s.reached n ≡ None → (nodes : List NodeNo) (x : ℕ) → IsWalk (faced s.way g) n s.start nodes x → IsOutside s.radius x
     bound n e [] x w = absurd w.0
     bound n e (c ∷ more) x w =
-        bounded_walk (faced s.way g) s.start s.radius s.reached s.marks.items s.waiting h all (IsOutside s.radius) (outside_more s.radius) none_waits (λ y out. out) c more x w.0.1 w.1
+        bounded_walk (faced s.way g) s.start s.radius s.reached s.marks s.waiting h all (IsOutside s.radius) (outside_more s.radius) none_waits (λ y out. out) c more x w.0.1 w.1
         (λ q. let p = h.places.stands c q.0 q.1 in missing s.reached n e q.0 p.0 p.1 (p.2 ∙ w.0.0))
 
 -- one node more is listed, and there are only so many
@@ -99,7 +99,7 @@ finished_after g old new same search offered empty =
 
 -- a search that ends at a node, or with no candidate, and doesn't list the node: there is no walk
 pub no_walk : (g : Roads) (s : Search) (from to : NodeNo) → IsSearchOf (faced s.way g) s → AllOfferedIn (faced s.way g) s → s.way ≡ To → s.start ≡ to → s.radius ≡ None
-    → IsSettled s.marks.items from ⊎ (s.waiting ≡ []) → distance_of s.reached from ≡ None → NoWalk g from to
+    → IsSettled s.marks from ⊎ (s.waiting ≡ []) → distance_of s.reached from ≡ None → NoWalk g from to
 no_walk g s from to search offered way start radius (inl q) none = let p = search.places.stands from q.0 q.1 in absurd (missing s.reached from none q.0 p.0 p.1 p.2)
 no_walk g s from to search offered way start radius (inr empty) none =
     let lawful = IsGraph-from_faced s.way g search.graph in
@@ -108,7 +108,7 @@ no_walk g s from to search offered way start radius (inr empty) none =
 
 -- what the listing of such a search says of a walk back
 pub walk_or_none : (g : Roads) (s : Search) (from to : NodeNo) (l : Listing) → l ≡ listing_of s → IsSearchOf (faced s.way g) s → AllOfferedIn (faced s.way g) s → s.way ≡ To → s.start ≡ to → s.radius ≡ None
-    → IsSettled s.marks.items from ⊎ (s.waiting ≡ []) → (made : Result (Option Path) AllocError)
+    → IsSettled s.marks from ⊎ (s.waiting ≡ []) → (made : Result (Option Path) AllocError)
     → IfOk made (λ m. MatchOption m (distance_of l.listed from ≡ None) (IsLeastWalkBy l.way g l.start from)) → IfOk made (λ m. MatchOption m (NoWalk g from to) (IsLeastWalk g from to))
 walk_or_none g s from to l is search offered way start radius ends (Err e) h = h
 walk_or_none g s from to l is search offered way start radius ends (Ok None) h =

@@ -13,3 +13,4 @@ mod NewSearch
 mod Offers
 mod SettledSearch
 mod WalkBack
+mod Words

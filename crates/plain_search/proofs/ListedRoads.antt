@@ -28,7 +28,7 @@ listed_push way g old new c e =
 
 -- each listed node stands once, so no road is followed twice
 pub listed_few : (way : Way) (g h : Roads) (s : Search) → IsSearchOf h s → listed_roads way g s ≤ length g.roads
-listed_few way g h s search = roads_few way g (nodes_of s.reached) (listed_once s.reached s.marks.items search.places)
+listed_few way g h s search = roads_few way g (nodes_of s.reached) (listed_once s.reached s.marks search.places)
 
 pub none_listed : (way : Way) (g : Roads) (s : Search) → s.reached ≡ [] → listed_roads way g s ≡ 0
 none_listed From g s e = ap (λ (rs : List Reached). roads_by From g (nodes_of rs)) e

@@ -23,7 +23,7 @@ zero_inside (Some r) = omega arith
 
 -- the start as a candidate
 abbrev pub first_of : NodeNo → Candidate
-first_of start = record { distance = 0; node = start; parent = None }
+first_of start = record { distance = 0; node = start; parent = record { 0 = 0 } }
 
 module _ (h : Roads) (lawful : IsGraph h) (start : NodeNo) (its : IsNode h start) (radius : Option ℕ) (clean : List Mark) (is : clean ≡ replicate (h.nodes + 1) Unseen) where
   -- only the start is marked

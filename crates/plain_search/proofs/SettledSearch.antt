@@ -14,7 +14,7 @@ use Rattle.plain_search.specs.declared.reached.Mark.{Mark}
 use Rattle.plain_search.specs.declared.reached.Mark.TheVariants.{Unseen, Seen, Settled}
 use Rattle.plain_search.specs.Marking.{mark_of, ArePlaces}
 use Rattle.plain_search.specs.Reaching.{IsInside, HasWayBack}
-use Rattle.plain_search.specs.Searching.{IsSearch, IsSettled, IsOffered, AllOffered, AreOffered, Waits, IsCandidate, IsFound, IsFoundFrom, reached_by}
+use Rattle.plain_search.specs.Searching.{parent_in, IsSearch, IsSettled, IsOffered, AllOffered, AreOffered, Waits, IsCandidate, IsFound, IsFoundFrom, reached_by}
 use Rattle.road_graph.proofs.WalkLaws.{same_node, test_from_node, walk_over, weight_of_in}
 use Rattle.plain_search.proofs.Lists.{at-push, at-append, at-last, in-taken}
 use Rattle.plain_search.proofs.BoundedWalk.{bounded_walk, inside_less}
@@ -39,7 +39,7 @@ found_from h start done c p f =
 -- the nearest candidate that isn't settled is at its distance
 record IsNearest (h : Roads) (start : NodeNo) (done : List Reached) (c : Candidate) : Type 0 where
   dist : IsDist h c.node start c.distance
-  back : (p : NodeNo) → c.parent ≡ Some p → (f : Found h start done c p) × (f.parent.distance + f.weight ≡ c.distance)
+  back : (p : NodeNo) → parent_in c.parent ≡ Some p → (f : Found h start done c p) × (f.parent.distance + f.weight ≡ c.distance)
 
 module _ (h : Roads) (start : NodeNo) (radius : Option ℕ) (done : List Reached) (marks : List Mark) (old new : List Candidate)
     (s : IsSearch h start radius done marks old) (offered : AllOffered h radius done marks old)
@@ -56,7 +56,7 @@ module _ (h : Roads) (start : NodeNo) (radius : Option ℕ) (done : List Reached
       bounded_walk h start radius done marks old s offered (λ y. c.distance ≤ y) (λ a b le bound. omega arith) all_far (λ y out. inside_less radius c.distance y its.inside out)
       v more x w.0.1 w.1 (subst (λ (n : NodeNo). IsSettled marks n → ⊥) (sym w.0.0) un)
 
-  near_by : (IsSettled marks c.node → ⊥) → (o : Option NodeNo) → c.parent ≡ o → IsFound h start done c o → IsNearest h start done c
+  near_by : (IsSettled marks c.node → ⊥) → (o : Option NodeNo) → parent_in c.parent ≡ o → IsFound h start done c o → IsNearest h start done c
   near_by un None e f = record {
     dist = record {
       reached = (c.node ∷ [], ((refl, f.0), ap (λ t. cond t (Some 0) None) (test_from_node h c.node its.node) ∙ ap Some (sym f.1)));
@@ -78,7 +78,7 @@ module _ (h : Roads) (start : NodeNo) (radius : Option ℕ) (done : List Reached
       }
 
   nearest_is : (IsSettled marks c.node → ⊥) → IsNearest h start done c
-  nearest_is un = near_by un c.parent refl its.found
+  nearest_is un = near_by un (parent_in c.parent) refl its.found
 
   -- what a candidate that was taken leaves to the others
   kept_waits : (n : NodeNo) (x : ℕ) → Waits old n x → (c.node ≡ n) ⊎ Waits new n x
@@ -193,11 +193,11 @@ module _ (h : Roads) (start : NodeNo) (radius : Option ℕ) (done : List Reached
     found_more o (Some p) f = record { place = f.place; parent = f.parent; stands = at-append done (reached_by c ∷ []) f.place f.parent f.stands; named = f.named; index = f.index; weight = f.weight; road = f.road; sum = f.sum }
 
     candidate_more : (o : Candidate) → IsCandidate h start radius done o → IsCandidate h start radius (done ++ reached_by c ∷ []) o
-    candidate_more o i = record { node = i.node; inside = i.inside; found = found_more o o.parent i.found }
+    candidate_more o i = record { node = i.node; inside = i.inside; found = found_more o (parent_in o.parent) i.found }
 
     -- the first in the list is the start
-    back_now : (p : Option NodeNo) → c.parent ≡ p → IsFound h start done c p → (k : ℕ) → k ≡ length done → HasWayBack To h start (done ++ reached_by c ∷ []) k (reached_by c)
-    back_now None e f zero is = ap₂ (λ (n : NodeNo) (x : ℕ). let r : Reached = record { node = n; distance = x; parent = c.parent } in r) f.0 f.1 ∙ ap (λ (p : Option NodeNo). let r : Reached = record { node = start; distance = 0; parent = p } in r) e
+    back_now : (p : Option NodeNo) → parent_in c.parent ≡ p → IsFound h start done c p → (k : ℕ) → k ≡ length done → HasWayBack To h start (done ++ reached_by c ∷ []) k (reached_by c)
+    back_now None e f zero is = ap₂ (λ (n : NodeNo) (x : ℕ). let r : Reached = record { node = n; distance = x; parent = parent_in c.parent } in r) f.0 f.1 ∙ ap (λ (p : Option NodeNo). let r : Reached = record { node = start; distance = 0; parent = p } in r) e
     back_now (Some p) e f zero is = let l = slice_get_within done f.place f.parent f.stands in absurd (omega arith)
     back_now None e f (suc k) is =
         let first : Reached = get_or done 0 (reached_by c) in
@@ -231,7 +231,7 @@ module _ (h : Roads) (start : NodeNo) (radius : Option ℕ) (done : List Reached
       inside = each_now (λ k r. IsInside radius r.distance) s.inside its.inside;
       rising = IsNonDecreasingBy-push (λ (r : Reached). r.distance) done (reached_by c) s.rising
           (λ d some. (let at = slice_get-get_or done (length done - 1) d (omega arith) in All-head (λ (o : Candidate). (get_or done (length done - 1) d).distance ≤ o.distance) c new (All-permutation (λ (o : Candidate). (get_or done (length done - 1) d).distance ≤ o.distance) old (c ∷ new) taken (s.above (length done - 1) _ at))));
-      back = each_now (λ k r. HasWayBack To h start (done ++ reached_by c ∷ []) k r) (λ k r at. back_more k r (s.back k r at)) (back_now c.parent refl its.found (length done) refl);
+      back = each_now (λ k r. HasWayBack To h start (done ++ reached_by c ∷ []) k r) (λ k r at. back_more k r (s.back k r at)) (back_now (parent_in c.parent) refl its.found (length done) refl);
       candidates = All-weaker (IsCandidate h start radius done) (IsCandidate h start radius (done ++ reached_by c ∷ [])) candidate_more new
           (All-tail (IsCandidate h start radius done) c new (All-permutation (IsCandidate h start radius done) old (c ∷ new) taken s.candidates));
       above = each_now (λ k r. All (λ (o : Candidate). r.distance ≤ o.distance) new) (passed_above) nearest;

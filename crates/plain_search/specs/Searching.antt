@@ -1,4 +1,4 @@
-use Rattle.std.specs.Prelude.{◌≡◌, ℕ, ◌+◌, ◌<◌, ◌≤◌, ◌⊎◌, List, [], ◌∷◌, ◌++◌, length, Option, Some, None, All, Contains, IsPermutation, slice_get, slice_set}
+use Rattle.std.specs.Prelude.{◌≡◌, ℕ, ◌+◌, ◌==◌, cond, ◌<◌, ◌≤◌, ◌⊎◌, List, [], ◌∷◌, ◌++◌, length, Option, Some, None, All, Contains, IsPermutation, slice_get, slice_set}
 use Rattle.std.specs.List.Sorted.{IsNonDecreasingBy}
 use Rattle.road_graph.specs.declared.road.NodeNo.{NodeNo}
 use Rattle.road_graph.specs.Roads.{Roads, IsNode, ins}
@@ -20,6 +20,10 @@ abbrev pub faced : Way → Roads → Roads
 faced From g = turned g
 faced To g = g
 
+-- the node of a candidate's parent, where its number is one of a node
+abbrev pub parent_in : NodeNo → Option NodeNo
+parent_in p = cond (p.0 == 0) None (Some p)
+
 -- a candidate's distance goes over a road to a node that is settled
 pub record IsFoundFrom (h : Roads) (done : List Reached) (c : Candidate) (p : NodeNo) : Type 0 where
   pub place : ℕ
@@ -38,7 +42,7 @@ IsFound h start done c (Some p) = IsFoundFrom h done c p
 pub record IsCandidate (h : Roads) (start : NodeNo) (radius : Option ℕ) (done : List Reached) (c : Candidate) : Type 0 where
   pub node : IsNode h c.node
   pub inside : IsInside radius c.distance
-  pub found : IsFound h start done c c.parent
+  pub found : IsFound h start done c (parent_in c.parent)
 
 -- the node waits at this distance or less
 pub record Waits (open' : List Candidate) (n : NodeNo) (x : ℕ) : Type 0 where
@@ -81,7 +85,7 @@ AllOffered h radius done marks open' =
 
 -- a candidate as the node that it becomes
 abbrev pub reached_by : Candidate → Reached
-reached_by c = record { node = c.node; distance = c.distance; parent = c.parent }
+reached_by c = record { node = c.node; distance = c.distance; parent = parent_in c.parent }
 
 -- a mark and the radius tell that a node at this distance needn't be looked for
 abbrev pub IsKnownBy : Option ℕ → Mark → ℕ → Type 0
@@ -104,10 +108,10 @@ abbrev pub Offers : Option ℕ → List Mark → List Mark → List Candidate �
 Offers radius marks marked old new c = (IsKnownBy radius (mark_of marks c.node) c.distance × (marked ≡ marks) × (new ≡ old)) ⊎ IsAdded radius marks marked old new c
 
 abbrev pub IsSearchOf : Roads → Search → Type 0
-IsSearchOf h s = IsSearch h s.start s.radius s.reached s.marks.items s.waiting
+IsSearchOf h s = IsSearch h s.start s.radius s.reached s.marks s.waiting
 
 abbrev pub AllOfferedIn : Roads → Search → Type 0
-AllOfferedIn h s = AllOffered h s.radius s.reached s.marks.items s.waiting
+AllOfferedIn h s = AllOffered h s.radius s.reached s.marks s.waiting
 
 -- the search goes on with the same start, way and radius
 pub record IsSameSearch (old new : Search) : Type 0 where

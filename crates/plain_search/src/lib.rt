@@ -5,6 +5,7 @@
 //! that there is none.
 #![tactic(auto)]
 
+mod marks;
 mod nearest;
 mod potential;
 mod reached;

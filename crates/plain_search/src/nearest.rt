@@ -7,14 +7,17 @@ use std::cmp::Reverse;
 use std::collections::BinaryHeap;
 use std::marker::Model;
 
-/// A node that a search has found but not settled, and a road to it.
+/// A node that a search has found but not settled, and a road to it. The order is that of the
+/// distances alone.
 #[derive(Clone, Copy, Debug)]
 #[derive_where(PartialEq, Eq, PartialOrd, Ord)]
 pub(crate) struct Candidate {
     pub(crate) distance: u64,
-    pub(crate) node: NodeNo,
     #[derive_where(skip(EqHashOrd))]
-    pub(crate) parent: Option<NodeNo>,
+    pub(crate) node: NodeNo,
+    /// The node that the road comes from, and the number 0, which is no node's, for the start.
+    #[derive_where(skip(EqHashOrd))]
+    pub(crate) parent: NodeNo,
 }
 
 /// Candidates of which the nearest is taken first.
@@ -43,6 +46,13 @@ impl Nearest {
         Nearest {
             heap: BinaryHeap::new(alloc),
         }
+    }
+
+    /// Lets none wait, in the memory of those that did.
+    pub(crate) fn clear(&mut self)
+        ensures { self.new ≡ [] }
+    {
+        self.heap.clear();
     }
 
     pub(crate) fn push(&mut self, candidate: Candidate) -> Result<(), NoMemory>

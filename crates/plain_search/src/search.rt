@@ -1,15 +1,36 @@
 ghost use Rattle.std.specs.Prelude.{◌≡◌, ℕ, ◌+◌, ◌-◌, ◌^◌, ◌<◌, ◌≤◌, ◌↔◌, ◌⊎◌, List, [], ◌∷◌, ◌++◌, length, IfOk, IfSome, IsTrue, MatchOption, MatchBool, Some, slice_get, slice_set};
 ghost use Rattle.road_graph.specs.Roads.{Roads, IsNode, ins};
 ghost use Rattle.plain_search.specs.declared.reached.Reached.{Reached as ReachedNode};
-ghost use Rattle.plain_search.specs.declared.reached.Mark.TheVariants.{Seen, Settled};
+ghost use Rattle.plain_search.specs.declared.reached.Mark.TheVariants.{Settled};
+ghost use Rattle.plain_search.specs.Marking.{mark_of};
 ghost use Rattle.plain_search.specs.Reaching.{IsInside};
-ghost use Rattle.plain_search.specs.Searching.{faced, reached_by, IsSearch, IsSearchOf, IsSettled, AllOffered, AllOfferedIn, AreOffered, Offers, IsKnownBy, IsNewBy, IsSameSearch, HasOneMore, ReadsListed, ReadsNoMore};
+ghost use Rattle.plain_search.specs.Searching.{faced, parent_in, reached_by, IsSearch, IsSearchOf, IsSettled, AllOffered, AllOfferedIn, AreOffered, Offers, IsKnownBy, IsNewBy, IsSameSearch, HasOneMore, ReadsListed, ReadsNoMore};
 
+use crate::marks::Marks;
 use crate::nearest::{Candidate, Nearest};
-use crate::reached::{Mark, Reached, Way};
+use crate::reached::{Reached, Way};
 use ride_base::{Items, NoMemory};
 use road_graph::{Graph, NodeNo, Steps};
 use std::alloc::Global;
+
+/// What a search keeps, so that another one may use its memory.
+#[derive(Drop)]
+pub(crate) struct Memory {
+    pub(crate) reached: Items<Reached>,
+    pub(crate) marks: Marks,
+    pub(crate) waiting: Nearest,
+}
+
+impl Memory {
+    /// None yet.
+    pub(crate) fn new(alloc: Global) -> Memory {
+        Memory {
+            reached: Items::new(alloc),
+            marks: Marks::new(alloc),
+            waiting: Nearest::new(alloc),
+        }
+    }
+}
 
 /// A search that settles nodes in rising order of distance (Dijkstra 1959).
 #[derive(Drop)]
@@ -18,14 +39,14 @@ pub(crate) struct Search {
     pub(crate) start: NodeNo,
     pub(crate) radius: Option<u64>,
     pub(crate) reached: Items<Reached>,
-    pub(crate) marks: Vec<Mark>,
+    pub(crate) marks: Marks,
     pub(crate) waiting: Nearest,
 }
 
 impl Search {
-    /// A search in which the start waits.
+    /// A search in which the start waits, in the memory of another.
     pub(crate) fn new(
-        alloc: Global,
+        memory: Memory,
         graph: &Graph,
         way: Way,
         start: NodeNo,
@@ -37,19 +58,24 @@ impl Search {
         ensures begun { IfOk result (IsSearchOf (faced way graph.now)) }
         ensures offered { IfOk result (AllOfferedIn (faced way graph.now)) }
     {
-        let mut marks = vec![in alloc; Mark::Unseen; graph.nodes() as usize + 1]?;
-        marks[start.0 as usize] = Mark::Seen(0);
-        let mut waiting = Nearest::new(alloc);
+        let Memory {
+            reached,
+            mut marks,
+            mut waiting,
+        } = memory;
+        marks.reset(graph.nodes() as usize + 1)?;
+        marks.see(start, 0);
+        waiting.clear();
         waiting.push(Candidate {
             distance: 0,
             node: start,
-            parent: None,
+            parent: NodeNo(0),
         })?;
         Ok(Search {
             way,
             start,
             radius,
-            reached: Items::new(alloc),
+            reached: emptied(reached),
             marks,
             waiting,
         })
@@ -75,7 +101,7 @@ impl Search {
         ensures asks { steps.new.1 ≡ steps.old.1 }
     {
         while let Some(nearest) = self.waiting.pop() {
-            if !is_settled(self.marks.as_slice(), nearest.node) {
+            if !self.marks.is_settled(nearest.node) {
                 self.settle(nearest)?;
                 self.offer_roads(graph, nearest, steps)?;
                 return Ok(true);
@@ -98,7 +124,7 @@ impl Search {
         ensures search { IfOk result (λ _. IsSearchOf (faced self.old.way graph.now) self.new) }
         ensures offered { IfOk result (λ _. AllOfferedIn (faced self.old.way graph.now) self.new) }
         ensures ends { IfOk result
-            (λ _. IsSettled self.new.marks.items node ⊎ (self.new.waiting ≡ [])) }
+            (λ _. IsSettled self.new.marks node ⊎ (self.new.waiting ≡ [])) }
         ensures steps { IfOk result (λ _.
             ReadsListed self.old.way graph.now self.old self.new steps.old.0 steps.new.0) }
         ensures least { steps.old.0 ≤ steps.new.0 }
@@ -106,7 +132,7 @@ impl Search {
         ensures asks { steps.new.1 ≡ steps.old.1 }
     {
         'settling: while self.settle_nearest(graph, steps)? {
-            if is_settled(self.marks.as_slice(), node) {
+            if self.marks.is_settled(node) {
                 return Ok(());
             }
         }
@@ -115,22 +141,22 @@ impl Search {
 
     /// Puts a candidate at the end of the list.
     fn settle(&mut self, nearest: Candidate) -> Result<(), NoMemory>
-        requires marks { nearest.node.0 < length self.old.marks.items }
+        requires marks { nearest.node.0 < length self.old.marks }
         requires few { length self.old.reached < 2 ^ 32 }
         ensures same { IfOk result (λ _. IsSameSearch self.old self.new) }
         ensures reached { IfOk result
             (λ _. self.new.reached ≡ self.old.reached ++ reached_by nearest ∷ []) }
-        ensures marks { IfOk result (λ _. self.new.marks.items
-            ≡ slice_set self.old.marks.items nearest.node.0 (Settled (length self.old.reached))) }
+        ensures marks { IfOk result (λ _. self.new.marks
+            ≡ slice_set self.old.marks nearest.node.0 (Settled (length self.old.reached))) }
         ensures waiting { IfOk result (λ _. self.new.waiting ≡ self.old.waiting) }
     {
         let place = self.reached.len() as u32;
         self.reached.push(Reached {
             node: nearest.node,
             distance: nearest.distance,
-            parent: nearest.parent,
+            parent: parent_of(nearest.parent),
         })?;
-        self.marks[nearest.node.0 as usize] = Mark::Settled(place);
+        self.marks.settle(nearest.node, place);
         Ok(())
     }
 
@@ -145,7 +171,7 @@ impl Search {
         requires last { slice_get self.old.reached (length self.old.reached - 1)
             ≡ Some (reached_by last) }
         requires offered { AreOffered (faced self.old.way graph.now) self.old.radius
-            self.old.reached self.old.marks.items self.old.waiting 0 }
+            self.old.reached self.old.marks self.old.waiting 0 }
         ensures same { IfOk result (λ _. IsSameSearch self.old self.new) }
         ensures reached { IfOk result (λ _. self.new.reached ≡ self.old.reached) }
         ensures search { IfOk result (λ _. IsSearchOf (faced self.old.way graph.now) self.new) }
@@ -157,12 +183,13 @@ impl Search {
             ≤ steps.old.0 + length (ins (faced self.old.way graph.now) last.node) }
         ensures asks { steps.new.1 ≡ steps.old.1 }
     {
-        for index in 0..road_count(graph, self.way, last.node) {
-            let (node, weight) = road_at(graph, self.way, last.node, index, steps);
+        let way = self.way;
+        for index in 0..road_count(graph, way, last.node) {
+            let (node, weight) = road_at(graph, way, last.node, index, steps);
             self.offer(Candidate {
                 distance: last.distance + u64::from(weight),
                 node,
-                parent: Some(last.node),
+                parent: last.node,
             })?;
         }
         Ok(())
@@ -170,44 +197,50 @@ impl Search {
 
     /// Lets a candidate wait, unless its node is settled, is beyond the radius, or waits at no more.
     fn offer(&mut self, candidate: Candidate) -> Result<(), NoMemory>
-        requires { candidate.node.0 < length self.old.marks.items }
+        requires node { candidate.node.0 < length self.old.marks }
+        requires distance { candidate.distance < 2 ^ 63 }
         ensures same { IfOk result (λ _. IsSameSearch self.old self.new) }
         ensures reached { IfOk result (λ _. self.new.reached ≡ self.old.reached) }
-        ensures offers { IfOk result (λ _. Offers self.old.radius self.old.marks.items
-            self.new.marks.items self.old.waiting self.new.waiting candidate) }
+        ensures offers { IfOk result (λ _. Offers self.old.radius self.old.marks
+            self.new.marks self.old.waiting self.new.waiting candidate) }
     {
-        if is_known(
-            self.radius,
-            self.marks[candidate.node.0 as usize],
-            candidate.distance,
-        ) {
+        if self.is_known(candidate.node, candidate.distance) {
             return Ok(());
         }
         self.waiting.push(candidate)?;
-        self.marks[candidate.node.0 as usize] = Mark::Seen(candidate.distance);
+        self.marks.see(candidate.node, candidate.distance);
         Ok(())
     }
+
+    /// Whether a node needn't be looked for at this distance.
+    fn is_known(&self, node: NodeNo, distance: u64) -> bool
+        requires node { node.0 < length self.now.marks }
+        requires distance { distance < 2 ^ 63 }
+        ensures { MatchBool result
+            (IsKnownBy self.now.radius (mark_of self.now.marks node) distance)
+            (IsNewBy self.now.radius (mark_of self.now.marks node) distance) }
+    {
+        if self.radius.is_some_and(|radius| radius < distance) {
+            return true;
+        }
+        self.marks.is_known(node, distance)
+    }
 }
 
-/// Whether a node with this mark needn't be looked for at this distance.
-fn is_known(radius: Option<u64>, mark: Mark, distance: u64) -> bool
-    ensures { MatchBool result (IsKnownBy radius mark distance) (IsNewBy radius mark distance) }
+/// The node that a candidate's road comes from, where it has one.
+fn parent_of(parent: NodeNo) -> Option<NodeNo>
+    ensures { result ≡ parent_in parent }
 {
-    if radius.is_some_and(|radius| radius < distance) {
-        return true;
-    }
-    match mark {
-        Mark::Unseen => false,
-        Mark::Seen(waiting) => waiting <= distance,
-        Mark::Settled(_) => true,
-    }
+    if parent.0 == 0 { None } else { Some(parent) }
 }
 
-fn is_settled(marks: &[Mark], node: NodeNo) -> bool
-    requires { node.0 < length marks.now }
-    ensures { IsTrue result ↔ IsSettled marks.now node }
+/// No nodes, in the memory of these.
+fn emptied(reached: Items<Reached>) -> Items<Reached>
+    ensures { result ≡ [] }
 {
-    matches!(marks[node.0 as usize], Mark::Settled(_))
+    let mut held = reached.into_vec();
+    held.clear();
+    Items::from_vec(held)
 }
 
 /// How many roads a search follows from a node.

@@ -5,14 +5,16 @@ ghost use Rattle.road_graph.specs.Reads.{roads_out, roads_into, read_along};
 ghost use Rattle.plain_search.specs.declared.reached.Reached.{Reached as ReachedNode};
 ghost use Rattle.plain_search.specs.Reaching.{IsReach, AreReached, IsBeyond, IsDistBy, IsInside, IsLeastWalkBy, IsRadius, StandsAt, distance_of, in_way, nodes_of, nodes_found, roads_by, AreWalkReads};
 ghost use Rattle.plain_search.specs.declared.reached.Mark.TheVariants.{Settled};
-ghost use Rattle.plain_search.specs.Marking.{ArePlaces, mark_of};
+ghost use Rattle.plain_search.specs.Marking.{ArePlaces};
 ghost use Rattle.plain_search.specs.Valuing.{IsPotential, IsRising, listed_value};
 ghost use Rattle.std.specs.Option.{option_map};
 ghost use Rattle.road_graph.specs.declared.road.NodeNo.{NodeNo as NodeNumber};
 
+use crate::marks::Marks;
+use crate::nearest::Nearest;
 use crate::potential::Potential;
 use crate::reached::{Mark, Reached, Way};
-use crate::search::Search;
+use crate::search::{Memory, Search};
 use ride_base::{Items, NoMemory};
 use road_graph::{Graph, NodeNo, Steps, Walk};
 use std::alloc::Global;
@@ -25,7 +27,9 @@ pub struct Reach {
     start: NodeNo,
     radius: Option<u64>,
     listed: Items<Reached>,
-    marks: Vec<Mark>,
+    marks: Marks,
+    // the queue of the search, whose memory another one may use
+    waiting: Nearest,
 }
 
 impl Model for Reach {
@@ -36,7 +40,7 @@ impl Model for Reach {
 
     ghost view = { λ r. record { way = r.way; start = r.start; radius = r.radius; listed = r.listed } };
 
-    ghost invariant = { λ r. ArePlaces r.listed r.marks.items × IsRadius r.radius };
+    ghost invariant = { λ r. ArePlaces r.listed r.marks × IsRadius r.radius };
 }
 
 /// The nodes within a radius from a node, or all that it reaches. It reads each road out of them once, and counts it.
@@ -57,7 +61,7 @@ pub fn reach_from<L>(
     ensures most { steps.new.0 ≤ steps.old.0 + length graph.now.roads }
     ensures asks { steps.new.1 ≡ steps.old.1 }
 {
-    search_all(alloc, graph, Way::From, from, radius, steps)
+    search_all(Memory::new(alloc), graph, Way::From, from, radius, steps)
 }
 
 /// The nodes from which a node is within a radius, or all that reach it. It reads each road into them once, and counts it.
@@ -78,7 +82,7 @@ pub fn reach_to<L>(
     ensures most { steps.new.0 ≤ steps.old.0 + length graph.now.roads }
     ensures asks { steps.new.1 ≡ steps.old.1 }
 {
-    search_all(alloc, graph, Way::To, to, radius, steps)
+    search_all(Memory::new(alloc), graph, Way::To, to, radius, steps)
 }
 
 /// A least walk from one node to another without a repeated node. None where there is no walk. It reads each road into the nodes from
@@ -99,13 +103,13 @@ pub fn least_walk<L>(
     ensures most { steps.new.0 ≤ steps.old.0 + 2 * length graph.now.roads }
     ensures asks { steps.new.1 ≡ steps.old.1 }
 {
-    let mut search = Search::new(alloc, graph, Way::To, to, None)?;
+    let mut search = Search::new(Memory::new(alloc), graph, Way::To, to, None)?;
     search.settle_until(graph, from, steps)?;
     Reach::of(search).walk_back(alloc, graph, from, steps)
 }
 
 fn search_all<L>(
-    alloc: Global,
+    memory: Memory,
     graph: &Graph,
     way: Way,
     start: NodeNo,
@@ -122,12 +126,49 @@ fn search_all<L>(
     ensures most { steps.new.0 ≤ steps.old.0 + length graph.now.roads }
     ensures asks { steps.new.1 ≡ steps.old.1 }
 {
-    let mut search = Search::new(alloc, graph, way, start, radius)?;
+    let mut search = Search::new(memory, graph, way, start, radius)?;
     'settling: while search.settle_nearest(graph, steps)? {}
     Ok(Reach::of(search))
 }
 
 impl Reach {
+    /// Another reach, in the memory of this one: that of a node one way. It reads each road that way at its nodes once, and counts it.
+    /// After an error nothing is left of either.
+    pub fn renewed<L>(
+        self,
+        graph: &Graph,
+        way: Way,
+        start: NodeNo,
+        radius: Option<u64>,
+        steps: &mut Steps<L>,
+    ) -> Result<Reach, NoMemory>
+        requires node { IsNode graph.now start }
+        requires radius { IsRadius radius }
+        ensures asked { IfOk result
+            (λ r. (r.way ≡ way) × (r.start ≡ start) × (r.radius ≡ radius)) }
+        ensures exact { IfOk result (IsReach graph.now) }
+        ensures steps { IfOk result
+            (λ r. steps.new.0 ≡ steps.old.0 + roads_by way graph.now (nodes_of r.listed)) }
+        ensures least { steps.old.0 ≤ steps.new.0 }
+        ensures most { steps.new.0 ≤ steps.old.0 + length graph.now.roads }
+        ensures asks { steps.new.1 ≡ steps.old.1 }
+    {
+        let Reach {
+            way: _,
+            start: _,
+            radius: _,
+            listed: reached,
+            marks,
+            waiting,
+        } = self;
+        let memory = Memory {
+            reached,
+            marks,
+            waiting,
+        };
+        search_all(memory, graph, way, start, radius, steps)
+    }
+
     /// The nodes in rising order of distance, the start first.
     pub fn as_slice(&self) -> &[Reached]
         ensures { result.now ≡ self.now.listed }
@@ -178,8 +219,8 @@ impl Reach {
             → IsPotential self.now.way g self.now.start p) }
     {
         let mut listed = Items::new(alloc);
-        for mark in &self.marks {
-            if let Some(place) = place_of(*mark) {
+        for number in 0..self.marks.len() {
+            if let Some(place) = place_of(self.marks.at(number)) {
                 let reached = self.listed.as_slice()[place];
                 listed.push((reached.node, reached.distance))?;
             }
@@ -191,7 +232,7 @@ impl Reach {
     }
 
     fn of(search: Search) -> Reach
-        requires places { ArePlaces search.reached search.marks.items }
+        requires places { ArePlaces search.reached search.marks }
         requires radius { IsRadius search.radius }
         ensures { result ≡ record {
           way = search.way;
@@ -206,7 +247,7 @@ impl Reach {
             radius,
             reached,
             marks,
-            waiting: _,
+            waiting,
         } = search;
         Reach {
             way,
@@ -214,6 +255,7 @@ impl Reach {
             radius,
             listed: reached,
             marks,
+            waiting,
         }
     }
 
@@ -250,7 +292,7 @@ impl Reach {
         ensures { MatchOption result (distance_of self.now.listed node ≡ None)
             (StandsAt self.now.listed node) }
     {
-        place_of(mark_at(self.marks.as_slice(), node))
+        place_of(self.marks.at(node.0 as usize))
     }
 
     /// Where the parent of a listed node stands.
@@ -278,13 +320,6 @@ fn first_beyond(radius: Option<u64>) -> Option<u64>
     ensures { result ≡ option_map (λ r. r + 1) radius }
 {
     Some(radius? + 1)
-}
-
-/// The mark of a node, also of one that is in no graph.
-fn mark_at(marks: &[Mark], node: NodeNo) -> Mark
-    ensures { result ≡ mark_of marks.now node }
-{
-    marks.get(node.0 as usize).copied().unwrap_or(Mark::Unseen)
 }
 
 /// The place in the list that a mark tells.

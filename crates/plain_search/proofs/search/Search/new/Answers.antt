@@ -9,6 +9,6 @@ pub returns-clause-begun : goal.returns-clause-begun
 returns-clause-begun c =
     let g = c.args.graph.now in
     let way = c.args.way in
-    let clean = c.in_ok-marks.ensures.items_if_clones_equal (λ y same. same) ∙ ap (λ n. replicate (n + 1) Unseen) (c.nodes.ensures.nodes ∙ sym (nodes-faced way g)) in
-    let waits = rw c.new-waiting.ensures at c.in_ok-push.ensures in
-    rw c.new.ensures (begun (faced way g) (IsGraph-faced way g c.nodes.ensures.kept) c.args.start (IsNode-faced way g c.args.start c.requires) c.args.radius c.in_ok-marks.marks.items clean c.push.new.self waits)
+    let clean = c.in_ok-reset.ensures ∙ ap (λ n. replicate (n + 1) Unseen) (c.nodes.ensures.nodes ∙ sym (nodes-faced way g)) in
+    let waits = rw c.clear.ensures at c.in_ok-push.ensures in
+    rw (c.emptied.ensures, c.see.ensures) (begun (faced way g) (IsGraph-faced way g c.nodes.ensures.kept) c.args.start (IsNode-faced way g c.args.start c.requires) c.args.radius c.reset.new.self clean c.push.new.self waits)

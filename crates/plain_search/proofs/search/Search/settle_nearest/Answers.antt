@@ -7,9 +7,7 @@ use Rattle.plain_search.proofs.SettledSearch.{passed_search, passed_offers}
 use Rattle.plain_search.proofs.search.Search.settle_nearest.Goals as goal
 
 pub is_settled-requires : goal.is_settled-requires
-is_settled-requires g c =
-    let fits = taken_fits (faced c.args.self.now.way c.args.graph.now) c.loop-nearest.self c.pop.new.self c.in-Some.nearest c.loop-nearest.invariant.search c.in-Some.ensures.none in
-    rw c.as_slice.ensures.value fits
+is_settled-requires g c = taken_fits (faced c.args.self.now.way c.args.graph.now) c.loop-nearest.self c.pop.new.self c.in-Some.nearest c.loop-nearest.invariant.search c.in-Some.ensures.none
 
 pub settle-requires-clause-marks : goal.settle-requires-clause-marks
 settle-requires-clause-marks g c = taken_fits (faced c.args.self.now.way c.args.graph.now) c.loop-nearest.self c.pop.new.self c.in-Some.nearest c.loop-nearest.invariant.search c.in-Some.ensures.none
@@ -26,7 +24,7 @@ offer_roads-requires-clause-search g c =
     let l = c.loop-nearest.invariant in
     let e = c.in_ok-settle.ensures in
     let m = after_settling (faced c.args.self.now.way c.args.graph.now) c.loop-nearest.self c.settle.new.self c.pop.new.self c.in-Some.nearest l.search l.offered c.in-Some.ensures.none c.in-Some.ensures.nearest
-    (unsettled c.loop-nearest.self.marks.items c.as_slice.result.now c.in-Some.nearest.node c.as_slice.ensures.value c.if-not-is_settled.ensures)
+    (unsettled c.loop-nearest.self.marks c.in-Some.nearest.node c.if-not-is_settled.ensures)
     (record { way = e.same.way; start = e.same.start; radius = e.same.radius }) e.reached e.marks e.waiting in
     rw (e.same.way ∙ l.same.way) m.search
 
@@ -38,7 +36,7 @@ offer_roads-requires-clause-offered g c =
     let l = c.loop-nearest.invariant in
     let e = c.in_ok-settle.ensures in
     let m = after_settling (faced c.args.self.now.way c.args.graph.now) c.loop-nearest.self c.settle.new.self c.pop.new.self c.in-Some.nearest l.search l.offered c.in-Some.ensures.none c.in-Some.ensures.nearest
-    (unsettled c.loop-nearest.self.marks.items c.as_slice.result.now c.in-Some.nearest.node c.as_slice.ensures.value c.if-not-is_settled.ensures)
+    (unsettled c.loop-nearest.self.marks c.in-Some.nearest.node c.if-not-is_settled.ensures)
     (record { way = e.same.way; start = e.same.start; radius = e.same.radius }) e.reached e.marks e.waiting in
     rw (e.same.way ∙ l.same.way) m.offered
 
@@ -50,12 +48,12 @@ loop-nearest-preserved g c =
     let l = c.loop-nearest.invariant in
     let s = c.loop-nearest.self in
     let h = faced c.args.self.now.way c.args.graph.now in
-    let is = settled_by s.marks.items c.as_slice.result.now c.in-Some.nearest.node c.as_slice.ensures.value c.if-not-is_settled.ensures in
+    let is = settled_by s.marks c.in-Some.nearest.node c.if-not-is_settled.ensures in
     record {
       same = record { way = l.same.way; start = l.same.start; radius = l.same.radius };
       reached = l.reached;
-      search = passed_search h s.start s.radius s.reached s.marks.items s.waiting c.pop.new.self l.search l.offered c.in-Some.nearest c.in-Some.ensures.none c.in-Some.ensures.nearest is;
-      offered = passed_offers h s.start s.radius s.reached s.marks.items s.waiting c.pop.new.self l.search l.offered c.in-Some.nearest c.in-Some.ensures.none c.in-Some.ensures.nearest is;
+      search = passed_search h s.start s.radius s.reached s.marks s.waiting c.pop.new.self l.search l.offered c.in-Some.nearest c.in-Some.ensures.none c.in-Some.ensures.nearest is;
+      offered = passed_offers h s.start s.radius s.reached s.marks s.waiting c.pop.new.self l.search l.offered c.in-Some.nearest c.in-Some.ensures.none c.in-Some.ensures.nearest is;
       steps = l.steps;
     }
 
@@ -76,7 +74,7 @@ returns-in_err-offer_roads-clause-most x c =
     let way = c.args.self.now.way in
     let g = c.args.graph.now in
     let m = after_settling (faced way g) c.loop-nearest.self c.settle.new.self c.pop.new.self c.in-Some.nearest l.search l.offered c.in-Some.ensures.none c.in-Some.ensures.nearest
-    (unsettled c.loop-nearest.self.marks.items c.as_slice.result.now c.in-Some.nearest.node c.as_slice.ensures.value c.if-not-is_settled.ensures)
+    (unsettled c.loop-nearest.self.marks c.in-Some.nearest.node c.if-not-is_settled.ensures)
     (record { way = e.same.way; start = e.same.start; radius = e.same.radius }) e.reached e.marks e.waiting in
     let same = ap (λ (p : ℕ × ℕ). p.0) l.steps in
     let most = c.offer_roads.ensures.most in
@@ -89,7 +87,7 @@ returns-then-not-is_settled-clause-most x c =
     let way = c.args.self.now.way in
     let g = c.args.graph.now in
     let m = after_settling (faced way g) c.loop-nearest.self c.settle.new.self c.pop.new.self c.in-Some.nearest l.search l.offered c.in-Some.ensures.none c.in-Some.ensures.nearest
-    (unsettled c.loop-nearest.self.marks.items c.as_slice.result.now c.in-Some.nearest.node c.as_slice.ensures.value c.if-not-is_settled.ensures)
+    (unsettled c.loop-nearest.self.marks c.in-Some.nearest.node c.if-not-is_settled.ensures)
     (record { way = e.same.way; start = e.same.start; radius = e.same.radius }) e.reached e.marks e.waiting in
     let same = ap (λ (p : ℕ × ℕ). p.0) l.steps in
     let most = c.offer_roads.ensures.most in

@@ -9,15 +9,15 @@ use Rattle.plain_search.proofs.tree.Reach.walk_back.Goals as goal
 pub loop-at-smaller : goal.loop-at-smaller
 loop-at-smaller g c =
     let listed = ap (λ (l : Listing). l.listed) c.self.view_is in
-    let places = subst (λ (rs : List Reached). ArePlaces rs c.self.inside.marks.items) listed c.self.invariant.0 in
-    (trace_more c.args.graph.now c.args.self.now c.self.inside.marks.items c.requires places c.args.node c.loop-at.nodes.items c.push.new.self.items c.loop-at.at c.in-Some.place c.in-Some.is c.loop-at.invariant
+    let places = subst (λ (rs : List Reached). ArePlaces rs c.self.inside.marks) listed c.self.invariant.0 in
+    (trace_more c.args.graph.now c.args.self.now c.self.inside.marks c.requires places c.args.node c.loop-at.nodes.items c.push.new.self.items c.loop-at.at c.in-Some.place c.in-Some.is c.loop-at.invariant
     c.as_slice.result.now (record { node = record { 0 = 0 }; distance = 0; parent = None }) (c.as_slice.ensures ∙ listed) c.in_ok-push.ensures.items c.parent_place-at.result c.parent_place-at.ensures).1
 
 pub loop-at-preserved : goal.loop-at-preserved
 loop-at-preserved g c =
     let listed = ap (λ (l : Listing). l.listed) c.self.view_is in
-    let places = subst (λ (rs : List Reached). ArePlaces rs c.self.inside.marks.items) listed c.self.invariant.0 in
-    (trace_more c.args.graph.now c.args.self.now c.self.inside.marks.items c.requires places c.args.node c.loop-at.nodes.items c.push.new.self.items c.loop-at.at c.in-Some.place c.in-Some.is c.loop-at.invariant
+    let places = subst (λ (rs : List Reached). ArePlaces rs c.self.inside.marks) listed c.self.invariant.0 in
+    (trace_more c.args.graph.now c.args.self.now c.self.inside.marks c.requires places c.args.node c.loop-at.nodes.items c.push.new.self.items c.loop-at.at c.in-Some.place c.in-Some.is c.loop-at.invariant
     c.as_slice.result.now (record { node = record { 0 = 0 }; distance = 0; parent = None }) (c.as_slice.ensures ∙ listed) c.in_ok-push.ensures.items c.parent_place-at.result c.parent_place-at.ensures).0
 
 pub made-requires : goal.made-requires
