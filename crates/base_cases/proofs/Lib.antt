@@ -1,1 +1,3 @@
 mod OneVehicle
+mod Kept
+mod WaysAlong

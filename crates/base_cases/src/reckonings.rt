@@ -1,11 +1,18 @@
-ghost use Rattle.std.specs.Prelude.{◌≡◌, ◌+◌, ◌<◌, ◌≤◌, ◌^◌, length, IfSome};
+ghost use Rattle.std.specs.Prelude.{◌≡◌, ◌+◌, ◌<◌, ◌≤◌, ◌^◌, length, true, IsTrue, IfOk, IfSome};
+ghost use Rattle.road_graph.specs.Roads.{IsNode};
+ghost use Rattle.insertion_cost.specs.NodeWays.{AreWaysOf, AreWaysTo, IsDistOrNone};
 ghost use Rattle.insertion_cost.specs.Spans.{AreSpans};
+ghost use Rattle.stop_schedule.specs.Keeping.{keeps as keeps_of};
+ghost use Rattle.stop_schedule.specs.Lists.{IsInsertionInto, node_at as node_of_stop};
 ghost use Rattle.stop_schedule.specs.Limits.{end_of_time, latest_front, latest_moment, most_riders};
 
 use crate::cities::line;
 use crate::plans::{at, front, promised};
 use crate::schedules::are_short;
-use insertion_cost::{Priced, Spans, price};
+use insertion_cost::{
+    Behind, NodeWays, Offer, Priced, Spans, Standing, best_from, first_of_two, price,
+};
+use plain_search::least_walk;
 use ride_base::{RequestNo, VehicleNo};
 use road_graph::{Graph, NodeNo, Steps, Walk};
 use std::alloc::Global;
@@ -65,8 +72,7 @@ impl Draws {
     /// A pair of places in a list of so many stops.
     fn places(&mut self, stops: usize) -> Insertion
         requires { stops ≤ 64 }
-        ensures order { result.i ≤ result.j }
-        ensures within { result.j ≤ stops }
+        ensures insertion { IsInsertionInto result stops }
     {
         let j = self.below(stops as u32 + 1);
         let i = self.below(j + 1);
@@ -134,6 +140,7 @@ fn along(
 /// The node of stop k, and of the front for 0.
 fn node_at(schedule: &Schedule, front: &Front, k: usize) -> NodeNo
     requires { k ≤ length schedule.now.stops }
+    ensures { result ≡ node_of_stop front.now schedule.now.stops k }
 {
     if k == 0 {
         front.node
@@ -152,8 +159,7 @@ fn changed_walks(
     at: Insertion,
     steps: &mut Steps<()>,
 ) -> Result<NewWalks, Fail>
-    requires order { at.i ≤ at.j }
-    requires within { at.j ≤ length schedule.now.stops }
+    requires insertion { IsInsertionInto at (length schedule.now.stops) }
 {
     let (pickup, dropoff) = (request.pickup, request.dropoff);
     let mut walks = NewWalks::new(alloc);
@@ -192,8 +198,7 @@ fn with_request(
     promise: &Promise,
     walks: &NewWalks,
 ) -> Result<Schedule, Fail>
-    requires order { at.i ≤ at.j }
-    requires within { at.j ≤ length schedule.now.stops }
+    requires insertion { IsInsertionInto at (length schedule.now.stops) }
     requires front { front.now.time ≤ latest_front }
     requires moment { request.now.moment ≤ latest_moment }
     requires riders { request.now.riders ≤ most_riders }
@@ -371,8 +376,7 @@ fn check_pair(
     at: Insertion,
     steps: &mut Steps<()>,
 ) -> Result<bool, Fail>
-    requires order { at.i ≤ at.j }
-    requires within { at.j ≤ length schedule.now.stops }
+    requires insertion { IsInsertionInto at (length schedule.now.stops) }
     requires front { front.now.time ≤ latest_front }
     requires offset { front.now.offset < 2 ^ 53 }
     requires moment { request.now.moment ≤ latest_moment }
@@ -456,5 +460,246 @@ fn prices_are_those_of_the_whole_new_list(rt: HostRuntime) -> Result<(), Fail> {
     }
     // of 2000 pairs some are feasible, and some aren't
     assert!(rt; 100 < feasible && feasible < 1900);
+    Ok(())
+}
+
+/// Whether the list keeps each limit and the end of service, with no more aboard than there is room for.
+fn keeps_all(list: &Schedule, params: &Params) -> bool
+    ensures { IsTrue result → keeps_of params.now list.now ≡ true }
+{
+    let count = list.stops().len();
+    for k in 0..count {
+        let stop = list.stops()[k];
+        let time = stop.kept_time(list.arr(params, k + 1), list.dep(params, k + 1));
+        if list.aboard(k) > list.seats()
+            || list.aboard_spaces(k) > list.spaces()
+            || time > stop.limit
+        {
+            return false;
+        }
+    }
+    list.dep(params, count) <= list.until()
+}
+
+/// Whether a node is one of the graph's.
+fn is_node(graph: &Graph, node: NodeNo) -> bool
+    ensures { IsTrue result → IsNode graph.now node }
+{
+    1 <= node.0 && node.0 <= graph.nodes()
+}
+
+/// The distance from one node to another.
+fn between(
+    alloc: Global,
+    graph: &Graph,
+    from: NodeNo,
+    to: NodeNo,
+    steps: &mut Steps<()>,
+) -> Result<Option<u64>, Fail>
+    ensures { IfOk result (IsDistOrNone graph.now from to) }
+{
+    if !is_node(graph, from) || !is_node(graph, to) {
+        return Err("another node".into());
+    }
+    match least_walk(alloc, graph, from, to, steps)? {
+        None => Ok(None),
+        Some(walk) => Ok(Some(walk.length())),
+    }
+}
+
+/// The distances between a node and the two nodes of a request.
+fn ways_of(
+    alloc: Global,
+    graph: &Graph,
+    request: &Request,
+    node: NodeNo,
+    steps: &mut Steps<()>,
+) -> Result<NodeWays, Fail>
+    ensures { IfOk result (AreWaysOf graph.now request.now node) }
+{
+    let to_pickup = between(alloc, graph, node, request.pickup, steps)?;
+    let from_pickup = between(alloc, graph, request.pickup, node, steps)?;
+    let to_dropoff = between(alloc, graph, node, request.dropoff, steps)?;
+    let from_dropoff = between(alloc, graph, request.dropoff, node, steps)?;
+    Ok(NodeWays {
+        to_pickup,
+        from_pickup,
+        to_dropoff,
+        from_dropoff,
+    })
+}
+
+/// The distances of the front's node and of each stop's.
+fn ways_along(
+    alloc: Global,
+    graph: &Graph,
+    schedule: &Schedule,
+    front: &Front,
+    request: &Request,
+    steps: &mut Steps<()>,
+) -> Result<Vec<NodeWays>, Fail>
+    ensures { IfOk result (λ ways. AreWaysTo graph.now request.now front.now schedule.now.stops
+        (length schedule.now.stops + 1) ways.items) }
+{
+    let mut ways = Vec::new(alloc);
+    for k in 0..schedule.stops().len() + 1 {
+        let node = node_at(schedule, front, k);
+        ways.push(ways_of(alloc, graph, request, node, steps)?)?;
+    }
+    Ok(ways)
+}
+
+/// The best offer of vehicle 1 over all pairs of places, by the price of each.
+fn best_of_pairs(
+    alloc: Global,
+    graph: &Graph,
+    schedule: &Schedule,
+    front: &Front,
+    params: &Params,
+    request: &Request,
+    steps: &mut Steps<()>,
+) -> Result<Option<Offer>, Fail>
+    requires front { front.now.time ≤ latest_front }
+    requires offset { front.now.offset < 2 ^ 53 }
+    requires moment { request.now.moment ≤ latest_moment }
+{
+    let mut best = None;
+    for i in 0..schedule.stops().len() + 1 {
+        for j in i..schedule.stops().len() + 1 {
+            let offer = offer_of(
+                alloc,
+                graph,
+                schedule,
+                front,
+                params,
+                request,
+                at(i, j),
+                steps,
+            )?;
+            best = first_of_two(best, offer);
+        }
+    }
+    Ok(best)
+}
+
+/// The offer of vehicle 1 for one pair of places, by its price.
+fn offer_of(
+    alloc: Global,
+    graph: &Graph,
+    schedule: &Schedule,
+    front: &Front,
+    params: &Params,
+    request: &Request,
+    at: Insertion,
+    steps: &mut Steps<()>,
+) -> Result<Option<Offer>, Fail>
+    requires insertion { IsInsertionInto at (length schedule.now.stops) }
+    requires front { front.now.time ≤ latest_front }
+    requires offset { front.now.offset < 2 ^ 53 }
+    requires moment { request.now.moment ≤ latest_moment }
+{
+    let walks = changed_walks(alloc, graph, schedule, front, request, at, steps)?;
+    let spans = spans_of(walks.as_slice(), schedule.stops().len(), at).ok_or("other walks")?;
+    let direct = distance(request.pickup, request.dropoff);
+    match price(schedule, front, params, request, direct, &spans, at) {
+        None => Ok(None),
+        Some(priced) => Ok(Some(Offer {
+            cost: priced.cost,
+            no: VehicleNo(1),
+            place: 0,
+            at,
+            leave: priced.leave,
+            arrive: priced.arrive,
+        })),
+    }
+}
+
+/// The best offer of vehicle 1 from a schedule that keeps, as it is found over all pairs at once.
+fn best_at_once(
+    alloc: Global,
+    graph: &Graph,
+    schedule: &Schedule,
+    front: &Front,
+    params: &Params,
+    request: &Request,
+    rows: &mut Vec<Behind>,
+    steps: &mut Steps<()>,
+) -> Result<Option<Offer>, Fail>
+    requires kept { keeps_of params.now schedule.now ≡ true }
+    requires front { front.now.time ≤ latest_front }
+    requires offset { front.now.offset < 2 ^ 53 }
+    requires moment { request.now.moment ≤ latest_moment }
+{
+    let Some(direct) = between(alloc, graph, request.pickup, request.dropoff, steps)? else {
+        return Err("no walk".into());
+    };
+    let ways = ways_along(alloc, graph, schedule, front, request, steps)?;
+    let vehicle = Standing {
+        no: VehicleNo(1),
+        place: 0,
+    };
+    let _ = graph.nodes();
+    Ok(best_from(
+        vehicle,
+        schedule,
+        front,
+        params,
+        request,
+        direct,
+        ways.as_slice(),
+        rows,
+    )?)
+}
+
+/// A drawn request to a drawn schedule of so many riders, where that keeps: both best offers are the same. Answers whether there is one.
+fn check_best(
+    rt: &impl Abort,
+    alloc: Global,
+    graph: &Graph,
+    riders: u64,
+    draws: &mut Draws,
+    rows: &mut Vec<Behind>,
+    steps: &mut Steps<()>,
+) -> Result<Option<bool>, Fail> {
+    let schedule = drawn(alloc, graph, riders, draws, steps)?;
+    let front = front_at(&schedule, u64::from(draws.below(40)));
+    let request = draws.request(riders);
+    let params = Params::usual();
+    if !keeps_all(&schedule, &params) {
+        return Ok(None);
+    }
+    let best = best_of_pairs(alloc, graph, &schedule, &front, &params, &request, steps)?;
+    let at_once = best_at_once(
+        alloc, graph, &schedule, &front, &params, &request, rows, steps,
+    )?;
+    assert_eq!(rt; at_once, best);
+    Ok(Some(best.is_some()))
+}
+
+#[test]
+fn best_offers_are_those_of_all_pairs(rt: HostRuntime) -> Result<(), Fail> {
+    let graph = line(rt.alloc())?;
+    let mut steps = Steps::start(&rt, ());
+    let mut draws = Draws { state: 7 };
+    let mut rows = Vec::new(rt.alloc());
+    let mut found = 0u64;
+    let mut nobody = 0u64;
+    for k in 0..400u64 {
+        match check_best(
+            &rt,
+            rt.alloc(),
+            &graph,
+            k % 4,
+            &mut draws,
+            &mut rows,
+            &mut steps,
+        )? {
+            None => {}
+            Some(true) => found = found.saturating_add(1),
+            Some(false) => nobody = nobody.saturating_add(1),
+        }
+    }
+    // of the schedules that keep some vehicles can take the request, and some can't
+    assert!(rt; 50 < found && 10 < nobody);
     Ok(())
 }

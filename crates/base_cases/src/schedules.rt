@@ -1,6 +1,7 @@
 ghost use Rattle.std.specs.Prelude.{◌≡◌, ◌<◌, ◌≤◌, ◌^◌, [], length, IfOk, IsTrue};
 ghost use Rattle.stop_schedule.specs.Bounds.{AreShortLegs};
 ghost use Rattle.stop_schedule.specs.Limits.{latest_front, latest_moment};
+ghost use Rattle.stop_schedule.specs.Lists.{IsInsertionInto};
 
 use crate::cities::{FOUR, ONE, THREE, TWO, walk};
 use crate::plans::{at, first, first_in_a_space, front, opened, promised, ride};
@@ -83,8 +84,7 @@ fn with_second(
     walks: &NewWalks,
 ) -> Result<Schedule, Fail>
     requires two { length schedule.now.stops ≡ 2 }
-    requires order { at.i ≤ at.j }
-    requires within { at.j ≤ 2 }
+    requires insertion { IsInsertionInto at 2 }
 {
     let into = if at.i == at.j { 2 } else { 3 };
     let changed = if at.j < 2 { into + 1 } else { into };
@@ -102,8 +102,7 @@ fn second<R: Threads>(
     at: Insertion,
     walks: &NewWalks,
 ) -> Result<Schedule, Fail>
-    requires order { at.i ≤ at.j }
-    requires within { at.j ≤ 2 }
+    requires insertion { IsInsertionInto at 2 }
 {
     let first = first(rt, alloc, 2, 0)?;
     with_second(alloc, &first, at, walks)
@@ -131,8 +130,7 @@ fn both_run<R: Threads>(
     riders: &[u32],
     end: u64,
 ) -> Result<bool, Fail>
-    requires order { at.i ≤ at.j }
-    requires within { at.j ≤ 2 }
+    requires insertion { IsInsertionInto at 2 }
 {
     let walks = walks_over(rt, alloc, lists)?;
     let schedule = second(rt, alloc, at, &walks)?;

@@ -1,4 +1,4 @@
-use Rattle.std.proofs.Common.{◌≡◌, ℕ, ◌<◌, [], length, get_or, Option, Some, false, sym, ap, ◌∙◌, subst}
+use Rattle.std.proofs.Common.{◌≡◌, ℕ, ◌<◌, [], length, get_or, Option, Some, true, false, sym, ap, ◌∙◌, subst}
 use Rattle.std.specs.Prelude.{slice_get}
 use Rattle.std.proofs.lemmas.Option.{slice_get-get_or}
 use Rattle.road_graph.specs.Graphs.{IsGraph}
@@ -7,7 +7,7 @@ use Rattle.stop_schedule.specs.declared.request.Request.{Request}
 use Rattle.stop_schedule.specs.declared.stop.Front.{Front}
 use Rattle.stop_schedule.specs.Fleets.{Car, Cars, OfCar, IsGoodFleet}
 use Rattle.stop_schedule.specs.Fronts.{front_of, IsAhead}
-use Rattle.stop_schedule.specs.Keeping.{HasLeastWalks, IsOverAGraph}
+use Rattle.stop_schedule.specs.Keeping.{HasLeastWalks, IsOverAGraph, keeps}
 use Rattle.stop_schedule.specs.Plans.{Plan}
 use Rattle.stop_schedule.specs.Rates.{Rates}
 use Rattle.insertion_cost.specs.declared.offer.Offer.{Offer}
@@ -36,6 +36,12 @@ module _ (fleet : Cars) (place : ℕ) (p : Plan) (clock : ℕ) (within : place <
   is_over_graph g lawful good =
       let c = car_at fleet place within in
       (g, lawful, subst (λ (q : Plan). HasLeastWalks g q) (sym (plan c.0 c.1)) (good.each place c.0 c.1).least_walks)
+
+  -- and it keeps
+  pub is_kept : (g : Roads) → IsGoodFleet g fleet → (rates : Rates) → rates ≡ fleet.rates → keeps rates p ≡ true
+  is_kept g good rates same =
+      let c = car_at fleet place within in
+      subst (λ (q : Plan). keeps rates q ≡ true) (sym (plan c.0 c.1)) (subst (λ (x : Rates). keeps x c.0.plan ≡ true) (sym same) (good.each place c.0 c.1).kept)
 
   -- its entry is that of the vehicle
   pub is_entry : (g : Roads) (r : Request) (v : Standing) (rates : Rates) (front : Front) (best : Option Offer) → v.place ≡ place → OfCar fleet place (λ (car : Car). v.no ≡ car.no) → rates ≡ fleet.rates → front ≡ front_of p clock

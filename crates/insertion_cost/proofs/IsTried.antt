@@ -1,6 +1,7 @@
 use Rattle.std.proofs.Common.{◌≡◌, ℕ, ◌+◌, ◌<◌, ◌≤◌, ◌⊎◌, inl, inr, ⊎_elim, List, [], ◌∷◌, Option, Some, None, length, refl, sym, ap, ◌∙◌, subst, arith}
 use Rattle.std.specs.Prelude.{option_map}
 use Rattle.std.specs.declared.cmp.Ordering.TheVariants.{Less}
+use Rattle.std.proofs.lemmas.Bool.{cases_lt}
 use Rattle.ride_base.specs.declared.numbers.VehicleNo.{VehicleNo}
 use Rattle.road_graph.specs.declared.road.NodeNo.{NodeNo}
 use Rattle.road_graph.specs.Roads.{Roads}
@@ -10,6 +11,7 @@ use Rattle.stop_schedule.specs.declared.request.Request.{Request}
 use Rattle.stop_schedule.specs.declared.stop.Front.{Front}
 use Rattle.stop_schedule.specs.declared.stop.Insertion.{Insertion}
 use Rattle.stop_schedule.specs.Fleets.{Car}
+use Rattle.stop_schedule.specs.Limits.{most_stops}
 use Rattle.stop_schedule.specs.Lists.{changed_ends}
 use Rattle.stop_schedule.specs.Plans.{Plan}
 use Rattle.stop_schedule.specs.Rates.{Rates}
@@ -18,6 +20,7 @@ use Rattle.insertion_cost.specs.declared.pairs.Standing.{Standing}
 use Rattle.insertion_cost.specs.declared.pricing.Priced.{Priced}
 use Rattle.stop_schedule.specs.Distances.{AreDistances}
 use Rattle.insertion_cost.specs.NodeWays.{IsOnlyPrice}
+use Rattle.insertion_cost.specs.OnWays.{HasNoneFrom}
 use Rattle.insertion_cost.specs.OfferOrder.{IsFirstOfTwo}
 use Rattle.insertion_cost.specs.Offers.{HasPrice, IsOfferFrom, IsFirst, price_in, offer_cmp}
 use Rattle.insertion_cost.specs.Pairs.{offer_by, IsCarOf, IsPairBefore, IsTried, IsBestOfTried, IsBestFrom}
@@ -73,7 +76,7 @@ offer_is o cost number place at leave arrive ec en ep ea el er =
     ∙ ap {B = Offer} (λ (x : ℕ). record { cost = cost; no = number; place = place; at = at; leave = x; arrive = o.arrive }) el
     ∙ ap {B = Offer} (λ (x : ℕ). record { cost = cost; no = number; place = place; at = at; leave = leave; arrive = x }) er
 
-pair_is : (at : Insertion) (i j : ℕ) → at.i ≡ i → at.j ≡ j → at ≡ record { i = i; j = j }
+pub pair_is : (at : Insertion) (i j : ℕ) → at.i ≡ i → at.j ≡ j → at ≡ record { i = i; j = j }
 pair_is at i j ei ej = ap {B = Insertion} (λ (x : ℕ). record { i = x; j = at.j }) ei ∙ ap {B = Insertion} (λ (x : ℕ). record { i = i; j = x }) ej
 
 module _ (g : Roads) (rates : Rates) (v : Standing) (p : Plan) (car : Car) (front : Front) (r : Request) (is : IsCarOf v p car) where
@@ -153,6 +156,34 @@ module _ (g : Roads) (rates : Rates) (v : Standing) (p : Plan) (car : Car) (fron
         below_or_at : (x y : ℕ) → x < y + 1 → (x < y) ⊎ (x ≡ y)
         below_or_at x y lt = grind arith
       back o places (inr b) = absurd (let m = places.0 in let e = b.0 in let l = b.1 in omega arith)
+
+  -- nor where no later pair of stop i has a price
+  pub rest_none : (i j : ℕ) (best : Option Offer) → HasNoneFrom g rates front p r i j → IsBestOfTried g rates v.place car front r i j best → IsBestOfTried g rates v.place car front r (i + 1) (i + 1) best
+  rest_none i j best none t =
+      same_first (IsTried g rates v.place car front r i j) (IsTried g rates v.place car front r (i + 1) (i + 1)) best
+      (λ o h. record { offer = h.offer; before = on o h.before }) (λ o h. record { offer = h.offer; before = back o h.offer (offer_pair o h.offer) h.before }) t
+    where
+      on : (o : Offer) → IsPairBefore i j o.at → IsPairBefore (i + 1) (i + 1) o.at
+      on o (inl b) = inl (omega arith)
+      on o (inr b) = inl (let e = b.0 in omega arith)
+
+      here : (o : Offer) → IsOfferFrom g rates v.place car front r o → o.at.i ≡ i → IsPairBefore i j o.at
+      here o h e = ⊎_elim (λ l. inr (e, l)) (λ m. absurd (none o.at (price_in o) e m (price_at o.at o (record { offer = h; pair = refl })))) (cases_lt o.at.j j)
+
+      back : (o : Offer) → IsOfferFrom g rates v.place car front r o → (o.at.i ≤ o.at.j) × (o.at.j ≤ length p.stops) → IsPairBefore (i + 1) (i + 1) o.at → IsPairBefore i j o.at
+      back o h places (inl b) = ⊎_elim (λ l. inl l) (λ e. here o h e) (below_or_at o.at.i i b) where
+        below_or_at : (x y : ℕ) → x < y + 1 → (x < y) ⊎ (x ≡ y)
+        below_or_at x y lt = grind arith
+      back o h places (inr b) = absurd (let m = places.0 in let e = b.0 in let l = b.1 in omega arith)
+
+  -- a list without room for two more stops has no offer
+  pub too_many : most_stops < length p.stops + 2 → IsBestFrom g rates v.place car front r None
+  too_many many = λ o h.
+      let q = price_at o.at o (record { offer = h; pair = refl }) in
+      let parts = priced_parts rates p front r o.at q.direct q.lengths (price_in o) q.priced_so in
+      let places = feasible_places rates p front r o.at q.lengths parts.0 in
+      let few = places.2 in
+      omega arith
 
   -- before anything is tried there is nothing
   pub none_tried : IsBestOfTried g rates v.place car front r 0 0 None

@@ -1,4 +1,10 @@
 mod NewLengths
+mod BehindStops
+mod NewCourse
+mod Seats
+mod Leads
+mod PairPrice
+mod PricedBy
 mod Aboard
 mod DriveAlong
 mod OfferCmp

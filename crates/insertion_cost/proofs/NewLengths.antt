@@ -19,7 +19,7 @@ length_at legs k leg h =
     sym (get_or_from_slice_get (map length_of legs) k (length_of leg) 0 (slice_get-map length_of legs k ∙ ap (option_map length_of) h))
 
 -- where no length is wanted, there is no place for it
-no_place : (i j : ℕ) → (IsSome {T = ℕ} None ↔ (i < j)) → j ≤ i
+pub no_place : (i j : ℕ) → (IsSome {T = ℕ} None ↔ (i < j)) → j ≤ i
 no_place i j s = ⊎_elim (λ (l : i < j). absurd (false≢true (s.1 l))) (λ (g : j ≤ i). g) (cases_lt i j)
 
 -- the lengths are as many as the legs that change

@@ -132,12 +132,12 @@ no_ways = record { to_pickup = None; from_pickup = None; to_dropoff = None; from
 is_none : (g : Roads) (u v : NodeNo) (o : Option ℕ) → IsDistOrNone g u v o → o ≡ None → NoWalk g u v
 is_none g u v o d e = subst (λ (x : Option ℕ). IsDistOrNone g u v x) e d
 
-is_some : (g : Roads) (u v : NodeNo) (o : Option ℕ) (x : ℕ) → IsDistOrNone g u v o → o ≡ Some x → IsDist g u v x
+pub is_some : (g : Roads) (u v : NodeNo) (o : Option ℕ) (x : ℕ) → IsDistOrNone g u v o → o ≡ Some x → IsDist g u v x
 is_some g u v o x d e = subst (λ (y : Option ℕ). IsDistOrNone g u v y) e d
 
 -- what the distances along a vehicle's list come to for one pair of places
 module _ (g : Roads) (r : Request) (front : Front) (stops : List Stop) (direct : ℕ) (ways : List NodeWays) (at : Insertion) (along : AreWaysAlong g r front stops direct ways) (order : at.i ≤ at.j) (within : at.j + 1 ≤ length ways) where
-  at_node : (k : ℕ) → k < length ways → AreWaysOf g r (node_at front stops k) (get_or ways k no_ways)
+  pub at_node : (k : ℕ) → k < length ways → AreWaysOf g r (node_at front stops k) (get_or ways k no_ways)
   at_node k l = along.each k (get_or ways k no_ways) (slice_get-get_or ways k no_ways l)
 
   pub not_into : (get_or ways at.i no_ways).to_pickup ≡ None → AreSpansOf g (changed_ends stops front r at) None

@@ -9,7 +9,7 @@ use Rattle.stop_schedule.specs.declared.stop.Stop.{Stop}
 use Rattle.stop_schedule.specs.Distances.{AreDistances, AreLeastWalks}
 use Rattle.stop_schedule.specs.Fleets.{Car, Cars, OfCar}
 use Rattle.stop_schedule.specs.Fronts.{front_of}
-use Rattle.stop_schedule.specs.Lists.{changed_ends}
+use Rattle.stop_schedule.specs.Lists.{IsInsertionInto, changed_ends}
 use Rattle.stop_schedule.specs.Plans.{Plan}
 use Rattle.insertion_cost.specs.declared.offer.Offer.{Offer}
 use Rattle.insertion_cost.specs.Offers.{IsOffer, price_in}
@@ -37,11 +37,8 @@ module _ (g : Roads) (fleet : Cars) (r : Request) (o : Offer) (f : IsOffer g fle
     front_is car h = ahead ∙ ap (λ (now : ℕ). front_of p now) time ∙ ap (λ (q : Plan). front_of q fleet.clock) (plan car h)
 
     -- its places are in the list
-    pub offer_order : o.at.i ≤ o.at.j
-    offer_order = places.0
-
-    pub offer_within : o.at.j ≤ length stops
-    offer_within = subst (λ (xs : List Stop). o.at.j ≤ length xs) (sym (stops_are f.car f.stands)) places.1
+    pub offer_is_insertion : IsInsertionInto o.at (length stops)
+    offer_is_insertion = (places.0, subst (λ (xs : List Stop). o.at.j ≤ length xs) (sym (stops_are f.car f.stands)) places.1)
 
     -- each leg that it changes has a distance
     pub offer_has : HaveDistances g (changed_ends stops front r o.at)

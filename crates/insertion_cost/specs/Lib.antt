@@ -9,6 +9,8 @@ pub mod Pricers
 pub mod Laws
 pub mod Spans
 pub mod Changes
+pub mod Behind
+pub mod OnWays
 pub mod Drives
 pub mod Samples
 pub use Rattle.stop_schedule.specs.Rates

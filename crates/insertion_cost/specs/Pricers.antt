@@ -16,7 +16,7 @@ use Rattle.insertion_cost.specs.declared.searches.Searches.{Searches}
 use Rattle.insertion_cost.specs.declared.decision.Assigned.{Assigned}
 use Rattle.insertion_cost.specs.declared.decision.Decision.{Decision}
 use Rattle.insertion_cost.specs.declared.decision.Decision.TheVariants.{Assigned as IsAssigned, Nobody}
-use Rattle.insertion_cost.specs.Offers.{IsBest, IsFirst, IsOfferNow, NoOffer}
+use Rattle.insertion_cost.specs.Offers.{IsBest, IsBestOrNone, IsFirst, IsOfferNow, NoOffer}
 use Rattle.insertion_cost.specs.Searches.{AreSearchesOf}
 
 -- both nodes of a request are in the graph, and its moment isn't too late
@@ -45,6 +45,14 @@ pub record IsEntryOf (g : Roads) (fleet : Cars) (r : Request) (place : ℕ) (car
 
 abbrev pub IsEntryAt : Roads → Cars → Request → ℕ → Candidate → Type 0
 IsEntryAt g fleet r place e = OfCar fleet place (λ (car : Car). IsEntryOf g fleet r place car e)
+
+-- and its entry as the searches of a graph give it
+abbrev pub IsEntryBySearches : Cars → Request → Searches → ℕ → Candidate → Type 0
+IsEntryBySearches fleet r s place e = (g : Roads) → IsGraph g → AreSearchesOf g r s → IsEntryAt g fleet r place e
+
+-- the best offer of a fleet, or none, as the searches of a graph give it
+abbrev pub IsBestBySearches : Cars → Request → Searches → Option Offer → Type 0
+IsBestBySearches fleet r s best = (g : Roads) → IsGraph g → AreSearchesOf g r s → IsBestOrNone g fleet r best
 
 -- the entries of the first n vehicles, each in its place
 pub record AreEntriesTo (g : Roads) (fleet : Cars) (r : Request) (n : ℕ) (entries : List Candidate) : Type 0 where

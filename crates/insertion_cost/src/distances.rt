@@ -7,6 +7,7 @@ ghost use Rattle.insertion_cost.specs.NodeWays.{AreNodesOf, AreWaysOf, AreWaysTo
 ghost use Rattle.insertion_cost.specs.Offers.{IsBestOrNone};
 ghost use Rattle.insertion_cost.specs.Pricers.{IsBestAt, IsRequestIn};
 
+use crate::behind::Behind;
 use crate::node_ways::NodeWays;
 use crate::offer::{Offer, first_of_two};
 use crate::pairs::{Standing, best_from};
@@ -83,6 +84,7 @@ fn best_at<F: FleetView, D: Distances>(
     direct: u64,
     distances: &mut D,
     ways: &mut Vec<NodeWays>,
+    rows: &mut Vec<Behind>,
 ) -> Result<Option<Offer>, NoMemory>
     requires graph { IsGraph (D.graph distances.old) }
     requires fleet { IsGoodFleet (D.graph distances.old) (F.fleet view.now) }
@@ -101,7 +103,9 @@ fn best_at<F: FleetView, D: Distances>(
         place,
     };
     let params = view.params();
-    Ok(best_from(vehicle, schedule, &front, params, request, direct, ways))
+    best_from(
+        vehicle, schedule, &front, params, request, direct, ways, rows,
+    )
 }
 
 /// The best offer over all vehicles of a view and all pairs of places, by distances alone. None where no insertion is feasible.
@@ -123,9 +127,12 @@ pub fn best_plain<F: FleetView, D: Distances>(
         return Ok(None);
     };
     let mut ways = Vec::new(alloc);
+    let mut rows = Vec::new(alloc);
     let mut best = None;
     for place in 0..view.count() {
-        let offer = best_at(alloc, view, place, request, direct, distances, &mut ways)?;
+        let offer = best_at(
+            alloc, view, place, request, direct, distances, &mut ways, &mut rows,
+        )?;
         best = first_of_two(best, offer);
     }
     Ok(best)

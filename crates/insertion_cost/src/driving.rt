@@ -6,6 +6,7 @@ ghost use Rattle.insertion_cost.specs.Changes.{party, boarding, alighting};
 ghost use Rattle.stop_schedule.specs.Limits.{latest_front, end_of_time};
 ghost use Rattle.insertion_cost.specs.Spans.{AreSpans, lengths_of};
 ghost use Rattle.insertion_cost.specs.Drives.{IsDriven};
+ghost use Rattle.stop_schedule.specs.Lists.{IsInsertionInto};
 
 use crate::listing::{new_length, new_stop};
 use crate::spans::Spans;
@@ -26,9 +27,11 @@ pub struct Drive {
 
 /// The riders who take one kind of seat and get on, and those who get off, at stops to come.
 #[derive(Clone, Copy, Debug)]
-struct Riders {
-    on: u64,
-    off: u64,
+pub struct Riders {
+    /// How many get on.
+    pub on: u64,
+    /// How many get off.
+    pub off: u64,
 }
 
 /// Drives along the new list, and stops at the first stop where too many are aboard, an older limit is broken or service is over.
@@ -40,8 +43,7 @@ pub fn drive_along(
     spans: &Spans,
     at: Insertion,
 ) -> Option<Drive>
-    requires order { at.i ≤ at.j }
-    requires within { at.j ≤ length schedule.now.stops }
+    requires insertion { IsInsertionInto at (length schedule.now.stops) }
     requires spans { AreSpans (length schedule.now.stops) at spans.now }
     requires front { front.now.time ≤ latest_front }
     ensures none { IfNone result (is_feasible params.now schedule.now front.now request.now at
@@ -135,7 +137,7 @@ impl Riders {
     }
 
     /// Those and the riders of one more stop.
-    fn with(&self, stop: &Stop, seat: SeatKind) -> Riders
+    pub fn with(&self, stop: &Stop, seat: SeatKind) -> Riders
         requires on { self.now.on < 2 ^ 60 }
         requires off { self.now.off < 2 ^ 60 }
         ensures on { result.on ≡ self.now.on + getting_on seat stop.now stop.now.kind }

@@ -7,6 +7,7 @@
 //! later fronts.
 #![tactic(auto)]
 
+mod behind;
 mod candidates;
 mod decision;
 mod distances;
@@ -15,6 +16,7 @@ mod laws;
 mod listing;
 mod node_ways;
 mod offer;
+mod on_the_way;
 mod pairs;
 mod plain;
 mod pricer;
@@ -22,6 +24,7 @@ mod pricing;
 mod searches;
 mod spans;
 
+pub use behind::Behind;
 pub use candidates::{Candidate, Candidates, Floor, best_listed, is_decided, is_redone};
 pub use decision::{Assigned, Decision};
 pub use distances::{Distances, best_plain};
@@ -29,7 +32,7 @@ pub use laws::prices_are_monotone;
 pub use node_ways::NodeWays;
 pub use offer::{Offer, first_of_two, is_before};
 pub use pairs::{Standing, best_from};
-pub use plain::PlainPricer;
+pub use plain::{PlainAnswers, PlainPricer};
 pub use pricer::Pricer;
 pub use pricing::{Priced, price, promise};
 pub use spans::Spans;

@@ -1,6 +1,6 @@
 ghost use Rattle.std.specs.Prelude.{◌≡◌, ℕ, ◌+◌, ◌<◌, ◌≤◌, ◌^◌, length, Some, slice_get, slice_index};
 ghost use Rattle.stop_schedule.specs.Bounds.{IsBounded};
-ghost use Rattle.stop_schedule.specs.Lists.{unpromised};
+ghost use Rattle.stop_schedule.specs.Lists.{IsInsertionInto, unpromised};
 ghost use Rattle.insertion_cost.specs.Changes.{new_stops, new_lengths};
 ghost use Rattle.insertion_cost.specs.Spans.{AreSpans, lengths_of};
 
@@ -9,8 +9,7 @@ use stop_schedule::{Insertion, Promise, Request, Schedule, Stop, dropoff_stop, p
 
 /// Stop k of the new list, from 0, where the new stops have no limit but the end of service.
 pub fn new_stop(schedule: &Schedule, request: &Request, at: Insertion, k: usize) -> Stop
-    requires order { at.i ≤ at.j }
-    requires within { at.j ≤ length schedule.now.stops }
+    requires insertion { IsInsertionInto at (length schedule.now.stops) }
     requires stop { k < length schedule.now.stops + 2 }
     ensures value { slice_get
         (new_stops schedule.now.stops schedule.now.until request.now at) k ≡ Some result }
@@ -41,8 +40,7 @@ fn unpromised(until: u64) -> Promise
 
 /// The length of the leg to stop k of the new list, from 0.
 pub fn new_length(schedule: &Schedule, spans: &Spans, at: Insertion, k: usize) -> u64
-    requires order { at.i ≤ at.j }
-    requires within { at.j ≤ length schedule.now.stops }
+    requires insertion { IsInsertionInto at (length schedule.now.stops) }
     requires spans { AreSpans (length schedule.now.stops) at spans.now }
     requires bounded { IsBounded schedule.now }
     requires stop { k < length schedule.now.stops + 2 }

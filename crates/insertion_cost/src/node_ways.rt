@@ -5,6 +5,7 @@ ghost use Rattle.stop_schedule.specs.declared.request.Request.{Request as Reques
 ghost use Rattle.stop_schedule.specs.declared.stop.Front.{Front as FrontOf};
 ghost use Rattle.stop_schedule.specs.declared.stop.Stop.{Stop as StopOf};
 ghost use Rattle.insertion_cost.specs.NodeWays.{AreWaysAlong, AreSpansOf, HaveShape};
+ghost use Rattle.insertion_cost.specs.OnWays.{AreReadOff};
 
 use crate::spans::Spans;
 use stop_schedule::Insertion;
@@ -30,6 +31,7 @@ pub fn spans_of(ways: &[NodeWays], direct: u64, at: Insertion) -> Option<Spans>
     ensures exact { (g : Roads) (r : RequestOf) (front : FrontOf) (stops : List StopOf)
         → AreWaysAlong g r front stops direct ways.now
         → AreSpansOf g (changed_ends stops front r at) result }
+    ensures read_off { IfSome result (AreReadOff ways.now direct at) }
     ensures shape { (stops : ℕ) → length ways.now ≡ stops + 1 → IfSome result (HaveShape stops at) }
 {
     let before_pickup = ways[at.i].to_pickup?;

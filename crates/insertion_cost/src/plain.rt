@@ -1,17 +1,18 @@
-ghost use Rattle.std.specs.Prelude.{IsOk, IfSome, ◌≡◌, ◌+◌, ◌<◌, ◌≤◌, ◌^◌, ◌∷◌, ◌++◌, length, option_to_list, IfOk};
+ghost use Rattle.std.specs.Prelude.{IsOk, IfSome, ◌≡◌, true, ◌+◌, ◌<◌, ◌≤◌, ◌^◌, ◌∷◌, ◌++◌, length, option_to_list, IfOk};
 ghost use Rattle.road_graph.specs.Graphs.{IsGraph};
 ghost use Rattle.road_graph.specs.Roads.{Roads, IsNode};
 ghost use Rattle.road_graph.specs.Walks.{IsLeastWalk};
 ghost use Rattle.stop_schedule.specs.Distances.{AreLeastWalks};
 ghost use Rattle.stop_schedule.specs.Fleets.{Car as CarOf, IsGoodView};
+ghost use Rattle.stop_schedule.specs.Keeping.{keeps};
 ghost use Rattle.stop_schedule.specs.Limits.{latest_moment, latest_front};
-ghost use Rattle.stop_schedule.specs.Lists.{changed_ends, node_at as node_of_stop};
+ghost use Rattle.stop_schedule.specs.Lists.{IsInsertionInto, changed_ends, node_at as node_of_stop};
 ghost use Rattle.insertion_cost.specs.Pairs.{IsCarOf, IsBestFrom};
-ghost use Rattle.insertion_cost.specs.Offers.{IsBestOrNone};
 ghost use Rattle.insertion_cost.specs.Pricers.{IsAnswerOf, IsRequestIn, IsSearchedFor};
-ghost use Rattle.insertion_cost.specs.Pricers.{IsEntryAt, HasDistance, HaveDistances};
+ghost use Rattle.insertion_cost.specs.Pricers.{IsEntryBySearches, IsBestBySearches, HasDistance, HaveDistances};
 ghost use Rattle.insertion_cost.specs.Searches.{AreSearchesOf, IsLeastWalkOrNone};
 
+use crate::behind::Behind;
 use crate::candidates::{Candidate, Candidates, Floor};
 use crate::decision::{Assigned, Decision};
 use crate::node_ways::NodeWays;
@@ -34,11 +35,13 @@ fn best_by_searches(
     request: &Request,
     searches: &Searches,
     ways: &mut Vec<NodeWays>,
+    rows: &mut Vec<Behind>,
 ) -> Result<Option<Offer>, NoMemory>
     requires graph { (g : Roads) × IsGraph g × AreSearchesOf g request.now searches.now }
     requires moment { request.now.moment ≤ latest_moment }
     requires front { front.now.time ≤ latest_front }
     requires offset { front.now.offset < 2 ^ 53 }
+    requires kept { keeps params.now schedule.now ≡ true }
     ensures { IfOk result (λ best. (g : Roads) (car : CarOf) → IsGraph g
         → AreSearchesOf g request.now searches.now → IsCarOf vehicle schedule.now car
         → IsBestFrom g params.now vehicle.place car front.now request.now best) }
@@ -46,7 +49,9 @@ fn best_by_searches(
     gather(searches, front, schedule.stops(), ways)?;
     match searches.from_pickup(request.dropoff) {
         None => Ok(None),
-        Some(direct) => Ok(best_from(vehicle, schedule, front, params, request, direct, ways)),
+        Some(direct) => best_from(
+            vehicle, schedule, front, params, request, direct, ways, rows,
+        ),
     }
 }
 
@@ -57,11 +62,12 @@ fn entry_at<F: FleetView>(
     request: &Request,
     searches: &Searches,
     ways: &mut Vec<NodeWays>,
+    rows: &mut Vec<Behind>,
 ) -> Result<Candidate, NoMemory>
     requires place { place < length (F.fleet view.now).cars }
     requires searched { IsSearchedFor (F.fleet view.now) request.now searches.now }
-    ensures { IfOk result (λ e. (g : Roads) → IsGraph g → AreSearchesOf g request.now searches.now
-        → IsEntryAt g (F.fleet view.now) request.now place e) }
+    ensures { IfOk result
+        (IsEntryBySearches (F.fleet view.now) request.now searches.now place) }
 {
     let schedule = view.schedule(place);
     let front = schedule.front(view.clock());
@@ -70,25 +76,27 @@ fn entry_at<F: FleetView>(
         place,
     };
     let params = view.params();
-    let best = best_by_searches(vehicle, schedule, &front, params, request, searches, ways)?;
+    let best = best_by_searches(
+        vehicle, schedule, &front, params, request, searches, ways, rows,
+    )?;
     Ok(Candidate { place, front, best })
 }
 
 /// The best offer of all vehicles of a view, by whole searches. None where no insertion is feasible.
 fn best_offer<F: FleetView>(
-    alloc: Global,
     view: &F,
     request: &Request,
     searches: &Searches,
+    ways: &mut Vec<NodeWays>,
+    rows: &mut Vec<Behind>,
 ) -> Result<Option<Offer>, NoMemory>
     requires searched { IsSearchedFor (F.fleet view.now) request.now searches.now }
-    ensures { IfOk result (λ best. (g : Roads) → IsGraph g → AreSearchesOf g request.now searches.now
-        → IsBestOrNone g (F.fleet view.now) request.now best) }
+    ensures { IfOk result
+        (IsBestBySearches (F.fleet view.now) request.now searches.now) }
 {
-    let mut ways = Vec::new(alloc);
     let mut best = None;
     for place in 0..view.count() {
-        let entry = entry_at(view, place, request, searches, &mut ways)?;
+        let entry = entry_at(view, place, request, searches, ways, rows)?;
         best = first_of_two(best, entry.best);
     }
     Ok(best)
@@ -188,8 +196,7 @@ fn changed_walks<L>(
     at: Insertion,
     steps: &mut Steps<L>,
 ) -> Result<NewWalks, NoMemory>
-    requires order { at.i ≤ at.j }
-    requires within { at.j ≤ length stops.now }
+    requires insertion { IsInsertionInto at (length stops.now) }
     requires there { HaveDistances graph.now (changed_ends stops.now front.now request.now at) }
     requires searches { IfSome searches
         (λ found. AreSearchesOf graph.now request.now found.now) }
@@ -255,6 +262,126 @@ fn changed_walks<L>(
     ))
 }
 
+/// The answer of a fleet to a request by searches for it, and the length of the direct way, which is 0 where nobody takes it.
+fn answer_by<F: FleetView, L>(
+    alloc: Global,
+    graph: &Graph,
+    view: &F,
+    request: &Request,
+    searches: &Searches,
+    ways: &mut Vec<NodeWays>,
+    rows: &mut Vec<Behind>,
+    steps: &mut Steps<L>,
+) -> Result<(Decision, u64), NoMemory>
+    requires view { IsGoodView (F.Index.fits (F.index_of view.now)) graph.now (F.fleet view.now) }
+    requires request { IsRequestIn graph.now request.now }
+    requires searches { AreSearchesOf graph.now request.now searches.now }
+    ensures answer { IfOk result (λ both. IsAnswerOf graph.now
+        (F.fleet view.now) request.now both.0 both.1) }
+    ensures steps { steps.old.0 ≤ steps.new.0 }
+    ensures asks { steps.new.1 ≡ steps.old.1 }
+{
+    let _ = graph.nodes();
+    let Some(offer) = best_offer(view, request, searches, ways, rows)? else {
+        return Ok((Decision::Nobody, 0));
+    };
+    let direct = searches.from_pickup(request.dropoff).unwrap();
+    let schedule = view.schedule(offer.place);
+    let front = schedule.front(view.clock());
+    let walks = changed_walks(
+        alloc,
+        graph,
+        Some(searches),
+        schedule.stops(),
+        &front,
+        request,
+        offer.at,
+        steps,
+    )?;
+    Ok((Decision::Assigned(Assigned { offer, walks }), direct))
+}
+
+/// Whole searches of a graph for a request, in the memory of those that were kept.
+fn searches_for<L>(
+    alloc: Global,
+    graph: &Graph,
+    kept: Option<Searches>,
+    request: &Request,
+    steps: &mut Steps<L>,
+) -> Result<Searches, NoMemory>
+    requires pickup { IsNode graph.now request.now.pickup }
+    requires dropoff { IsNode graph.now request.now.dropoff }
+    ensures searches { IfOk result (AreSearchesOf graph.now request.now) }
+    ensures steps { steps.old.0 ≤ steps.new.0 }
+    ensures asks { steps.new.1 ≡ steps.old.1 }
+{
+    match kept {
+        Some(searches) => searches.renewed(graph, request, steps),
+        None => Searches::of(alloc, graph, request, steps),
+    }
+}
+
+/// Answers requests one after another as `PlainPricer` does, all in the same memory.
+#[derive(Drop)]
+pub struct PlainAnswers<'g> {
+    graph: &'g Graph,
+    searches: Option<Searches>,
+    ways: Vec<NodeWays>,
+    rows: Vec<Behind>,
+}
+
+impl<'g> PlainAnswers<'g> {
+    /// Answers over this graph; none was asked for yet.
+    pub fn new(alloc: Global, graph: &'g Graph) -> PlainAnswers<'g>
+        ensures { result.graph.now ≡ graph.now }
+    {
+        PlainAnswers {
+            graph,
+            searches: None,
+            ways: Vec::new(alloc),
+            rows: Vec::new(alloc),
+        }
+    }
+
+    /// The answer of a fleet to a request, and the length of the direct way, which is 0 where nobody takes it: the best insertion with least
+    /// walks of the legs that it changes, or nobody. After an error it serves on.
+    pub fn answer<F: FleetView, L>(
+        &mut self,
+        alloc: Global,
+        view: &F,
+        request: &Request,
+        steps: &mut Steps<L>,
+    ) -> Result<(Decision, u64), NoMemory>
+        requires view { IsGoodView
+            (F.Index.fits (F.index_of view.now)) self.old.graph.now (F.fleet view.now) }
+        requires request { IsRequestIn self.old.graph.now request.now }
+        ensures same { self.new.graph.now ≡ self.old.graph.now }
+        ensures answer { IfOk result (λ both. IsAnswerOf self.old.graph.now
+            (F.fleet view.now) request.now both.0 both.1) }
+        ensures steps { steps.old.0 ≤ steps.new.0 }
+        ensures asks { IsOk result → steps.new.1 ≡ steps.old.1 + length (F.fleet view.now).cars }
+        ensures few { steps.new.1 ≤ steps.old.1 + length (F.fleet view.now).cars }
+        ensures kept { steps.old.1 ≤ steps.new.1 }
+    {
+        let kept = self.searches.take();
+        let searches = searches_for(alloc, self.graph, kept, request, steps)?;
+        let vehicles = view.count();
+        steps.ask(vehicles);
+        let answer = answer_by(
+            alloc,
+            self.graph,
+            view,
+            request,
+            &searches,
+            &mut self.ways,
+            &mut self.rows,
+            steps,
+        );
+        self.searches = Some(searches);
+        answer
+    }
+}
+
 /// Prices every vehicle of a view by whole searches of a graph.
 #[derive(Clone, Copy)]
 pub struct PlainPricer<'g> {
@@ -281,6 +408,7 @@ impl<'g> PlainPricer<'g> {
         requires view { IsGoodView
             (F.Index.fits (F.index_of view.now)) self.now.graph.now (F.fleet view.now) }
         requires request { IsRequestIn self.now.graph.now request.now }
+        ensures graph { IsGraph self.now.graph.now }
         ensures answer { IfOk result (λ both. IsAnswerOf self.now.graph.now
             (F.fleet view.now) request.now both.0 both.1) }
         ensures steps { steps.old.0 ≤ steps.new.0 }
@@ -288,26 +416,14 @@ impl<'g> PlainPricer<'g> {
         ensures few { steps.new.1 ≤ steps.old.1 + length (F.fleet view.now).cars }
         ensures kept { steps.old.1 ≤ steps.new.1 }
     {
+        let _ = self.graph.nodes();
         let searches = Searches::of(alloc, self.graph, request, steps)?;
         let vehicles = view.count();
         steps.ask(vehicles);
-        let Some(offer) = best_offer(alloc, view, request, &searches)? else {
-            return Ok((Decision::Nobody, 0));
-        };
-        let direct = searches.from_pickup(request.dropoff).unwrap();
-        let schedule = view.schedule(offer.place);
-        let front = schedule.front(view.clock());
-        let walks = changed_walks(
-            alloc,
-            self.graph,
-            Some(&searches),
-            schedule.stops(),
-            &front,
-            request,
-            offer.at,
-            steps,
-        )?;
-        Ok((Decision::Assigned(Assigned { offer, walks }), direct))
+        let (mut ways, mut rows) = (Vec::new(alloc), Vec::new(alloc));
+        answer_by(
+            alloc, self.graph, view, request, &searches, &mut ways, &mut rows, steps,
+        )
     }
 }
 
@@ -321,12 +437,14 @@ impl<'g, F: FleetView> Pricer<F> for PlainPricer<'g> {
         request: &Request,
         steps: &mut Steps<L>,
     ) -> Result<Candidates, NoMemory> {
+        let _ = self.graph.nodes();
         let searches = Searches::of(alloc, self.graph, request, steps)?;
         steps.ask(view.count());
         let mut ways = Vec::new(alloc);
+        let mut rows = Vec::new(alloc);
         let mut entries = Items::new(alloc);
         for place in 0..view.count() {
-            entries.push(entry_at(view, place, request, &searches, &mut ways)?)?;
+            entries.push(entry_at(view, place, request, &searches, &mut ways, &mut rows)?)?;
         }
         Ok(Candidates {
             base: view.version(),
@@ -343,10 +461,12 @@ impl<'g, F: FleetView> Pricer<F> for PlainPricer<'g> {
         request: &Request,
         steps: &mut Steps<L>,
     ) -> Result<Option<Offer>, NoMemory> {
+        let _ = self.graph.nodes();
         let searches = Searches::of(alloc, self.graph, request, steps)?;
         steps.ask(1);
         let mut ways = Vec::new(alloc);
-        let entry = entry_at(view, place, request, &searches, &mut ways)?;
+        let mut rows = Vec::new(alloc);
+        let entry = entry_at(view, place, request, &searches, &mut ways, &mut rows)?;
         Ok(entry.best)
     }
 
@@ -356,6 +476,7 @@ impl<'g, F: FleetView> Pricer<F> for PlainPricer<'g> {
         request: &Request,
         steps: &mut Steps<L>,
     ) -> Result<Option<u64>, NoMemory> {
+        let _ = self.graph.nodes();
         let walk = least_walk(alloc, self.graph, request.pickup, request.dropoff, steps)?;
         steps.ask(1);
         match walk {
@@ -372,6 +493,7 @@ impl<'g, F: FleetView> Pricer<F> for PlainPricer<'g> {
         offer: &Offer,
         steps: &mut Steps<L>,
     ) -> Result<NewWalks, NoMemory> {
+        let _ = self.graph.nodes();
         steps.ask(1);
         let schedule = view.schedule(offer.place);
         let front = schedule.front(view.clock());

@@ -1,4 +1,5 @@
 ghost use Rattle.std.specs.Prelude.{◌≡◌, ◌+◌, ◌<◌, ◌≤◌, length, IsOk, IfOk};
+ghost use Rattle.road_graph.specs.Graphs.{IsGraph};
 ghost use Rattle.road_graph.specs.Roads.{Roads};
 ghost use Rattle.stop_schedule.specs.Distances.{AreLeastWalks};
 ghost use Rattle.stop_schedule.specs.Fleets.{IsGoodView};
@@ -33,6 +34,7 @@ pub trait Pricer<F: FleetView> {
         requires view { IsGoodView
             (F.Index.fits (F.index_of view.now)) (graph self.now) (F.fleet view.now) }
         requires request { IsRequestIn (graph self.now) request.now }
+        ensures graph { IsGraph (graph self.now) }
         ensures fresh { IfOk result (AreFresh (graph self.now) (F.fleet view.now) request.now) }
         ensures decides { IfOk result Decides }
         ensures steps { steps.old.0 ≤ steps.new.0 }
@@ -53,6 +55,7 @@ pub trait Pricer<F: FleetView> {
             (F.Index.fits (F.index_of view.now)) (graph self.now) (F.fleet view.now) }
         requires request { IsRequestIn (graph self.now) request.now }
         requires place { place < length (F.fleet view.now).cars }
+        ensures graph { IsGraph (graph self.now) }
         ensures best { IfOk result
             (IsBestAt (graph self.now) (F.fleet view.now) request.now place) }
         ensures steps { steps.old.0 ≤ steps.new.0 }
@@ -68,6 +71,7 @@ pub trait Pricer<F: FleetView> {
         steps: &mut Steps<L>,
     ) -> Result<Option<u64>, NoMemory>
         requires request { IsRequestIn (graph self.now) request.now }
+        ensures graph { IsGraph (graph self.now) }
         ensures direct { IfOk result
             (IsDistOrNone (graph self.now) request.now.pickup request.now.dropoff) }
         ensures steps { steps.old.0 ≤ steps.new.0 }
@@ -88,6 +92,7 @@ pub trait Pricer<F: FleetView> {
             (F.Index.fits (F.index_of view.now)) (graph self.now) (F.fleet view.now) }
         requires request { IsRequestIn (graph self.now) request.now }
         requires offer { IsOffer (graph self.now) (F.fleet view.now) request.now offer.now }
+        ensures graph { IsGraph (graph self.now) }
         ensures walks { IfOk result
             (AreWalksOf (graph self.now) (F.fleet view.now) request.now offer.now) }
         ensures steps { steps.old.0 ≤ steps.new.0 }

@@ -5,7 +5,7 @@ ghost use Rattle.insertion_cost.specs.Searches.{AreSearchesOf, IsLeastWalkOrNone
 ghost use Rattle.insertion_cost.specs.Searches.{ways_at, ways_along};
 
 use crate::node_ways::NodeWays;
-use plain_search::{Reach, least_walk, reach_from, reach_to};
+use plain_search::{Reach, Way, least_walk, reach_from, reach_to};
 use ride_base::NoMemory;
 use road_graph::{Graph, NodeNo, Steps, Walk};
 use std::alloc::Global;
@@ -39,6 +39,34 @@ impl Searches {
             from_pickup: reach_from(alloc, graph, request.pickup, None, steps)?,
             to_dropoff: reach_to(alloc, graph, request.dropoff, None, steps)?,
             from_dropoff: reach_from(alloc, graph, request.dropoff, None, steps)?,
+        })
+    }
+
+    /// Searches the whole graph for another request, in the memory of these searches. After an error nothing is left of either.
+    pub fn renewed<L>(
+        self,
+        graph: &Graph,
+        request: &Request,
+        steps: &mut Steps<L>,
+    ) -> Result<Searches, NoMemory>
+        requires pickup { IsNode graph.now request.now.pickup }
+        requires dropoff { IsNode graph.now request.now.dropoff }
+        ensures searches { IfOk result (AreSearchesOf graph.now request.now) }
+        ensures steps { steps.old.0 ≤ steps.new.0 }
+        ensures asks { steps.new.1 ≡ steps.old.1 }
+    {
+        let Searches {
+            to_pickup,
+            from_pickup,
+            to_dropoff,
+            from_dropoff,
+        } = self;
+        let (pickup, dropoff) = (request.pickup, request.dropoff);
+        Ok(Searches {
+            to_pickup: to_pickup.renewed(graph, Way::To, pickup, None, steps)?,
+            from_pickup: from_pickup.renewed(graph, Way::From, pickup, None, steps)?,
+            to_dropoff: to_dropoff.renewed(graph, Way::To, dropoff, None, steps)?,
+            from_dropoff: from_dropoff.renewed(graph, Way::From, dropoff, None, steps)?,
         })
     }
 

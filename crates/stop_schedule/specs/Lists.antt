@@ -1,4 +1,4 @@
-use Rattle.std.specs.Prelude.{◌≡◌, ℕ, ◌+◌, ◌-◌, ◌==◌, cond, nat_lt, List, [], ◌∷◌, ◌++◌, take, drop, map, Option, Some, None, slice_get, length}
+use Rattle.std.specs.Prelude.{◌≡◌, ℕ, ◌+◌, ◌-◌, ◌≤◌, ◌==◌, cond, nat_lt, List, [], ◌∷◌, ◌++◌, take, drop, map, Option, Some, None, slice_get, length}
 use Rattle.road_graph.specs.declared.road.NodeNo.{NodeNo}
 use Rattle.road_graph.specs.Paths.{Path, length_of}
 use Rattle.stop_schedule.specs.declared.request.Request.{Request}
@@ -14,6 +14,10 @@ pickup_of r promise = record { node = r.pickup; kind = Pickup; no = r.no; riders
 
 abbrev pub dropoff_of : Request → Promise → Stop
 dropoff_of r promise = record { node = r.dropoff; kind = Dropoff; no = r.no; riders = r.riders; ready = 0; limit = promise.arrival; spaces = r.spaces }
+
+-- the pair of places is one of a list of so many stops: the pickup comes after stop i, the dropoff no sooner than after it
+abbrev pub IsInsertionInto : Insertion → (stops : ℕ) → Type 0
+IsInsertionInto at stops = (at.i ≤ at.j) × (at.j ≤ stops)
 
 -- the stops with a pickup after stop i and a dropoff after stop j, the pickup first where these are one
 abbrev pub with_both : List Stop → Insertion → Stop → Stop → List Stop
@@ -89,3 +93,7 @@ changed_ends stops front r at =
     ((r.pickup, r.dropoff) ∷ [])
     ((r.pickup, node_at front stops (at.i + 1)) ∷ (node_at front stops at.j, r.dropoff) ∷ [])
     ++ cond (nat_lt at.j (length stops)) ((r.dropoff, node_at front stops (at.j + 1)) ∷ []) []
+
+-- as many walks as there are changed legs
+abbrev pub AreAsMany : {X : Type 0} → List Stop → Front → Request → Insertion → (walks : List X) → Type 0
+AreAsMany stops front r at walks = length walks ≡ length (changed_ends stops front r at)

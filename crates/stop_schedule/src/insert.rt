@@ -1,6 +1,6 @@
 ghost use Rattle.std.specs.Prelude.{◌≡◌, ◌≤◌, ◌++◌, length, IfOk, OnErr, OnOk};
 ghost use Rattle.stop_schedule.specs.Limits.{most_stops};
-ghost use Rattle.stop_schedule.specs.Lists.{HasPutSome, pickup_of, dropoff_of, with_both, with_legs};
+ghost use Rattle.stop_schedule.specs.Lists.{HasPutSome, IsInsertionInto, pickup_of, dropoff_of, with_both, with_legs};
 
 use crate::request::Request;
 use crate::stop::{Insertion, Promise, Stop, StopKind};
@@ -46,8 +46,7 @@ pub fn stops_with(
     pickup: Stop,
     dropoff: Stop,
 ) -> Result<Items<Stop>, NoMemory>
-    requires order { at.i ≤ at.j }
-    requires within { at.j ≤ length stops.now }
+    requires insertion { IsInsertionInto at (length stops.now) }
     requires few { length stops.now ≤ most_stops }
     ensures { IfOk result (λ all. all ≡ with_both stops.now at pickup dropoff) }
 {
@@ -87,8 +86,7 @@ pub fn legs_with(
     at: Insertion,
     changed: &[Walk],
 ) -> Result<Items<Walk>, NoMemory>
-    requires order { at.i ≤ at.j }
-    requires within { at.j ≤ length legs.now }
+    requires insertion { IsInsertionInto at (length legs.now) }
     requires few { length legs.now ≤ most_stops }
     requires some { 2 ≤ length changed.now }
     ensures { IfOk result (λ all. all ≡ with_legs legs.now at changed.now) }

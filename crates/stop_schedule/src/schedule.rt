@@ -2,7 +2,7 @@ ghost use Rattle.std.specs.Prelude.{◌≡◌, ℕ, ◌+◌, ◌<◌, ◌≤◌,
 ghost use Rattle.road_graph.specs.Paths.{Path, length_of};
 ghost use Rattle.stop_schedule.specs.Bounds.{IsBounded, AreSmallStops, AreShortLegs};
 ghost use Rattle.stop_schedule.specs.Limits.{latest_moment, latest_front, end_of_time, most_stops, most_riders};
-ghost use Rattle.stop_schedule.specs.Lists.{inserted_in, changed_ends, started};
+ghost use Rattle.stop_schedule.specs.Lists.{AreAsMany, IsInsertionInto, inserted_in, started};
 ghost use Rattle.stop_schedule.specs.Plans.{opening_of, of_parts, course_of, halt_at};
 ghost use Rattle.stop_schedule.specs.Times.{departs, arrives, taking, aboard, aboard_before};
 ghost use Rattle.stop_schedule.specs.declared.stop.SeatKind.TheVariants.{Seat, Space};
@@ -261,9 +261,8 @@ impl Schedule {
         walks: &NewWalks,
     ) -> Result<Schedule, NoMemory>
         requires room { length self.now.stops + 2 ≤ most_stops }
-        requires order { at.i ≤ at.j }
-        requires within { at.j ≤ length self.now.stops }
-        requires as_many { length walks.now ≡ length (changed_ends self.now.stops front.now request.now at) }
+        requires insertion { IsInsertionInto at (length self.now.stops) }
+        requires as_many { AreAsMany self.now.stops front.now request.now at walks.now }
         requires short { AreShortLegs walks.now }
         requires time { front.now.time ≤ latest_front }
         requires moment { request.now.moment ≤ latest_moment }

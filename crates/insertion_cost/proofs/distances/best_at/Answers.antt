@@ -1,5 +1,6 @@
 use Rattle.std.proofs.Common.{refl, arith}
-use Rattle.insertion_cost.proofs.InFleet.{is_ahead, is_over_graph, is_entry}
+use Rattle.std.proofs.lemmas.Result.{IfOk-weaker}
+use Rattle.insertion_cost.proofs.InFleet.{is_ahead, is_over_graph, is_kept, is_entry}
 use Rattle.insertion_cost.proofs.BestPlain.{nodes_at, ways_all}
 use Rattle.insertion_cost.proofs.distances.best_at.Goals as goal
 
@@ -16,8 +17,12 @@ best_from-requires-clause-front g c =
     c.front-front.ensures.time (let l = c.requires.fleet.clock in let e = c.clock.ensures in omega arith)
     (is_over_graph (g.F.FleetView.fleet c.args.view.now) c.args.place c.schedule-schedule.result.now c.clock.result c.requires.place c.schedule-schedule.ensures c.clock.ensures (g.D.Distances.graph c.args.distances.now) c.requires.graph c.requires.fleet)
 
+pub best_from-requires-clause-kept : goal.best_from-requires-clause-kept
+best_from-requires-clause-kept g c =
+    is_kept (g.F.FleetView.fleet c.args.view.now) c.args.place c.schedule-schedule.result.now c.clock.result c.requires.place c.schedule-schedule.ensures c.clock.ensures (g.D.Distances.graph c.args.distances.now) c.requires.fleet c.params-params.result.now c.params-params.ensures
+
 pub returns-clause-best : goal.returns-clause-best
-returns-clause-best g c = λ car h. (is_entry (g.F.FleetView.fleet c.args.view.now) c.args.place c.schedule-schedule.result.now c.clock.result c.requires.place c.schedule-schedule.ensures c.clock.ensures (g.D.Distances.graph c.args.distances.now) c.args.request.now
-    (record { no = c.no.result; place = c.args.place }) c.params-params.result.now c.front-front.result c.best_from.result refl c.no.ensures c.params-params.ensures c.front-front.ensures.value
-    (λ d is. c.best_from.ensures (g.D.Distances.graph c.args.distances.now) d
-    (ways_all (g.D.Distances.graph c.args.distances.now) c.args.request.now c.front-front.result c.schedule-schedule.result.now.stops c.stops.result.now c.args.direct _ c.deref.result.now c.requires.graph c.requires.direct c.stops.ensures.value c.in_ok-gather_ways.ensures.ways c.deref.ensures.value) is) car h).best
+returns-clause-best g c = IfOk-weaker c.best_from.result _ _ (λ best all. λ car h. (is_entry (g.F.FleetView.fleet c.args.view.now) c.args.place c.schedule-schedule.result.now c.clock.result c.requires.place c.schedule-schedule.ensures c.clock.ensures (g.D.Distances.graph c.args.distances.now) c.args.request.now
+    (record { no = c.no.result; place = c.args.place }) c.params-params.result.now c.front-front.result best refl c.no.ensures c.params-params.ensures c.front-front.ensures.value
+    (λ d is. all (g.D.Distances.graph c.args.distances.now) d
+    (ways_all (g.D.Distances.graph c.args.distances.now) c.args.request.now c.front-front.result c.schedule-schedule.result.now.stops c.stops.result.now c.args.direct _ c.deref.result.now c.requires.graph c.requires.direct c.stops.ensures.value c.in_ok-gather_ways.ensures.ways c.deref.ensures.value) is) car h).best) c.best_from.ensures

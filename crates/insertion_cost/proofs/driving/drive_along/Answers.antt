@@ -17,8 +17,8 @@ loop-k-init c =
     let s = c.args.schedule.now in
     let r = c.args.request.now in
     along_start c.args.params.now s c.args.at (new_course s c.args.front.now r c.args.at (lengths_of c.args.spans.now)) _ _ _ _ c.start-start.ensures.departure (halts_as (started c.args.at c.args.front.now s) _ _ _ c.start-start.ensures.halt c.start-start.ensures.node c.halts_at-halt.ensures) c.start-start.ensures.bound
-    (ahead_start Seat s.stops s.until c.args.at r _ c.requires.order (c.riders_of-on_seats.ensures.on ∙ ap (λ l. boarding Seat l + party Seat r) c.stops-2.ensures.value) (c.riders_of-on_seats.ensures.off ∙ ap (λ l. alighting Seat l + party Seat r) c.stops-2.ensures.value))
-    (ahead_start Space s.stops s.until c.args.at r _ c.requires.order (c.riders_of-in_spaces.ensures.on ∙ ap (λ l. boarding Space l + party Space r) c.stops-3.ensures.value) (c.riders_of-in_spaces.ensures.off ∙ ap (λ l. alighting Space l + party Space r) c.stops-3.ensures.value))
+    (ahead_start Seat s.stops s.until c.args.at r _ c.requires.insertion.0 (c.riders_of-on_seats.ensures.on ∙ ap (λ l. boarding Seat l + party Seat r) c.stops-2.ensures.value) (c.riders_of-on_seats.ensures.off ∙ ap (λ l. alighting Seat l + party Seat r) c.stops-2.ensures.value))
+    (ahead_start Space s.stops s.until c.args.at r _ c.requires.insertion.0 (c.riders_of-in_spaces.ensures.on ∙ ap (λ l. boarding Space l + party Space r) c.stops-3.ensures.value) (c.riders_of-in_spaces.ensures.off ∙ ap (λ l. alighting Space l + party Space r) c.stops-3.ensures.value))
 
 pub returns-then-aboard-from-clause-none : goal.returns-then-aboard-from-clause-none
 returns-then-aboard-from-clause-none c =
@@ -63,7 +63,7 @@ past-in_spaces-requires-clause-off c =
 pub loop-k-preserved : goal.loop-k-preserved
 loop-k-preserved c =
     let s = c.args.schedule.now in
-    let match = lists_match s c.args.front.now c.args.request.now c.args.at c.args.spans.now c.requires.order c.requires.within c.stops.ensures.bounded.as_many_legs c.requires.spans in
+    let match = lists_match s c.args.front.now c.args.request.now c.args.at c.args.spans.now c.requires.insertion.0 c.requires.insertion.1 c.stops.ensures.bounded.as_many_legs c.requires.spans in
     along_more c.args.params.now s c.args.at (new_course s c.args.front.now c.args.request.now c.args.at (lengths_of c.args.spans.now)) c.loop-k.k c.loop-k.departure c.max-departure.result c.loop-k.halt c.loop-k.on_seats c.loop-k.in_spaces c.past-on_seats.result c.past-in_spaces.result c.loop-k.drive c.with_leg-drive.result c.new_stop-stop.result c.new_length-length.result c.stop_at-takes.result
     c.stops.ensures.bounded.until match.1 c.loop-k.invariant (record {
       stands = c.new_stop-stop.ensures.value;
@@ -84,6 +84,6 @@ loop-k-preserved c =
 pub returns-clause-some : goal.returns-clause-some
 returns-clause-some c =
     let s = c.args.schedule.now in
-    let match = lists_match s c.args.front.now c.args.request.now c.args.at c.args.spans.now c.requires.order c.requires.within c.stops.ensures.bounded.as_many_legs c.requires.spans in
+    let match = lists_match s c.args.front.now c.args.request.now c.args.at c.args.spans.now c.requires.insertion.0 c.requires.insertion.1 c.stops.ensures.bounded.as_many_legs c.requires.spans in
     let stops = ap length c.stops.ensures.value in
-    along_end c.args.params.now s c.args.front.now c.args.request.now c.args.at (lengths_of c.args.spans.now) c.loop-k.k c.loop-k.departure c.loop-k.halt c.loop-k.on_seats c.loop-k.in_spaces c.loop-k.drive c.requires.order c.requires.within (omega (arith, stops)) c.stops.ensures.bounded.until match.0 match.1 (omega (arith, stops, match.0)) c.loop-k.invariant
+    along_end c.args.params.now s c.args.front.now c.args.request.now c.args.at (lengths_of c.args.spans.now) c.loop-k.k c.loop-k.departure c.loop-k.halt c.loop-k.on_seats c.loop-k.in_spaces c.loop-k.drive c.requires.insertion.0 c.requires.insertion.1 (omega (arith, stops)) c.stops.ensures.bounded.until match.0 match.1 (omega (arith, stops, match.0)) c.loop-k.invariant

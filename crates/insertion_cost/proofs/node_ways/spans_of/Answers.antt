@@ -1,4 +1,4 @@
-use Rattle.std.proofs.Common.{Option, ℕ, sym, subst}
+use Rattle.std.proofs.Common.{Option, ℕ, sym, subst, refl, ◌∙◌, arith}
 use Rattle.insertion_cost.proofs.SpansOf.{IsOut, not_into, not_out, not_on, not_in, out_some, out_none, spans_together, spans_apart}
 use Rattle.insertion_cost.proofs.node_ways.spans_of.Goals as goal
 use Rattle.insertion_cost.proofs.node_ways.spans_of.Goals.{then-at-ways+in_ok-ways, else-at-ways}
@@ -34,3 +34,27 @@ returns-clause-exact c =
       | then-at-ways+in_ok-ways w ↦ subst (λ (o : Option ℕ). IsOut g stops front r c.args.at o) (sym w.after_dropoff-is) (out_some g r front stops c.args.direct c.args.ways.now c.args.at along c.requires.order c.requires.within w.in_ok-ways.field-0 w.if-at-ways.true w.in_ok-ways.was)
       | else-at-ways w ↦ subst (λ (o : Option ℕ). IsOut g stops front r c.args.at o) (sym w.after_dropoff-is) (out_none g r front stops c.args.direct c.args.ways.now c.args.at along c.requires.order c.requires.within w.if-at-ways.false)
     ])
+
+pub returns-then-at-clause-read_off : goal.returns-then-at-clause-read_off
+returns-then-at-clause-read_off c = record {
+  into = c.in_ok-before_pickup.was;
+  onto = λ l. absurd (let same = c.if-at.true in omega arith);
+  directly = λ e. refl;
+  back = λ l. absurd (let same = c.if-at.true in omega arith);
+  out = λ l. elim c.if-at-ways.branch [
+    | then-at-ways+in_ok-ways w ↦ w.in_ok-ways.was ∙ sym w.after_dropoff-is
+    | else-at-ways w ↦ absurd (let not = w.if-at-ways.false in omega arith)
+  ];
+}
+
+pub returns-clause-read_off : goal.returns-clause-read_off
+returns-clause-read_off c = record {
+  into = c.in_ok-before_pickup.was;
+  onto = λ l. c.in_ok-after_pickup.was;
+  directly = λ e. absurd (c.if-at.false e);
+  back = λ l. c.in_ok-before_dropoff.was;
+  out = λ l. elim c.if-at-ways.branch [
+    | then-at-ways+in_ok-ways w ↦ w.in_ok-ways.was ∙ sym w.after_dropoff-is
+    | else-at-ways w ↦ absurd (let not = w.if-at-ways.false in omega arith)
+  ];
+}

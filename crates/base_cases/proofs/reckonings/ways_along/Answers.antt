@@ -1,0 +1,11 @@
+use Rattle.std.proofs.Common.{length, ap, subst, arith}
+use Rattle.road_graph.specs.declared.road.NodeNo.{NodeNo}
+use Rattle.insertion_cost.specs.NodeWays.{AreWaysOf}
+use Rattle.base_cases.proofs.WaysAlong.{ways_more}
+use Rattle.base_cases.proofs.reckonings.ways_along.Goals as goal
+
+pub loop-k-preserved : goal.loop-k-preserved
+loop-k-preserved c = record {
+  within = let more = c.loop-k-test.true in let many = ap length c.stops.ensures.value in omega arith;
+  ways = ways_more c.args.graph.now c.args.request.now c.args.front.now c.args.schedule.now.stops c.loop-k.k c.loop-k.ways.items _ _ c.loop-k.invariant.ways (subst (λ (n : NodeNo). AreWaysOf c.args.graph.now c.args.request.now n c.in_ok-ways_of.field-0) c.node_at-node.ensures c.in_ok-ways_of.ensures) c.in_ok-push.ensures.items;
+}
