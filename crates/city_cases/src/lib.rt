@@ -1,0 +1,5 @@
+//! Tests of made cities.
+#![tactic(auto)]
+
+#[cfg(test)]
+mod cities;

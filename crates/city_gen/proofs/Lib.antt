@@ -1,0 +1,4 @@
+mod After
+mod LinesFrom
+mod RoadsAlong
+mod VehiclesFrom
