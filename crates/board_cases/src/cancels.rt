@@ -65,6 +65,7 @@ fn check_removed<R: Threads + Abort>(
     assert!(rt; !one.cancelled(RequestNo(1)));
     let removal = cancel_twice(alloc, graph, one, other, RequestNo(1), &mut steps)?;
     assert_eq!(rt; removal, first_removal(rt, alloc)?);
+    assert_eq!(rt; removal.walks.share(alloc)?, removal.walks);
     check_second_alone(rt, alloc, one)?;
     check_second_alone(rt, alloc, other)
 }

@@ -51,7 +51,7 @@ fn served(kind: StopKind, node: NodeNo, arr: u64, dep: u64) -> (VehicleNo, Serve
     (VehicleNo(1), stop)
 }
 
-/// Moves the clock, and compares what is told with stops that were reached.
+/// Moves the clock, and compares what is told, and a share of it, with stops that were reached.
 fn check_moved<R: Threads + Abort>(
     rt: &R,
     alloc: Global,
@@ -65,6 +65,7 @@ fn check_moved<R: Threads + Abort>(
     ensures { OnOk result (IsPlayed graph.now (board_of board.new)) }
 {
     let told = advance(alloc, graph, board, now, &mut Steps::start(rt, ()))?;
+    assert_eq!(rt; told.share(alloc)?, told);
     assert_eq!(rt; told, Advanced::Moved(Items::from_slice(alloc, stops)?));
     assert_eq!(rt; board.fleet().clock(), now);
     Ok(())
@@ -145,6 +146,7 @@ fn check_moves<R: Threads + Abort>(
     let pickup = served(StopKind::Pickup, TWO, 10, 12);
     check_moved(rt, alloc, graph, board, 12, &[pickup])?;
     let told = advance(alloc, graph, board, 11, &mut Steps::start(rt, ()))?;
+    assert_eq!(rt; told.share(alloc)?, told);
     assert_eq!(rt; told, Advanced::Back { clock: 12 });
     assert_eq!(rt; board.fleet().clock(), 12);
     let dropoff = served(StopKind::Dropoff, FOUR, 32, 34);

@@ -32,7 +32,7 @@ pub record IsGood (g : Roads) (rates : Rates) (clock : ℕ) (p : Plan) : Type 0 
 pub good_plan : (g : Roads) (rates : Rates) (clock : ℕ) (p : Plan) → IsGood g rates clock p → IsGoodPlan g rates clock p
 good_plan g rates clock p h = let s = sound_is g rates p h.sound in record { placed = h.placed; proper = s.0; kept = s.1; least_walks = s.2; ahead = h.ahead }
 
-good_from : (g : Roads) (rates : Rates) (clock : ℕ) (p : Plan) → IsGoodPlan g rates clock p → IsGood g rates clock p
+pub good_from : (g : Roads) (rates : Rates) (clock : ℕ) (p : Plan) → IsGoodPlan g rates clock p → IsGood g rates clock p
 good_from g rates clock p h = record { sound = sound_from g rates p h.proper h.kept h.least_walks; placed = h.placed; ahead = h.ahead }
 
 last_there : (u : NodeNo) (more : List NodeNo) → slice_get (u ∷ more) (length more) ≡ Some (last_of u more)

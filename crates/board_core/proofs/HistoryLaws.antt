@@ -4,7 +4,7 @@ use Rattle.stop_removal.proofs.RemovalLaws.{removals_keep_promises}
 use Rattle.board_core.specs.declared.entry.Entry.{Entry}
 use Rattle.board_core.specs.Boards.{Board}
 use Rattle.board_core.specs.Histories.{Legal}
-use Rattle.board_core.specs.Laws.{LegalHistoriesKeepPromises, PromisesAreDoneInTime, LegalHistoriesLeaveGoodFleets}
+use Rattle.board_core.specs.Laws.{OpeningBoardsAreGood, EntriesLeaveGoodBoards, HistoriesLeaveGoodBoards, LegalHistoriesKeepPromises, PromisesAreDoneInTime, LegalHistoriesLeaveGoodFleets}
 use Rattle.board_core.proofs.DoneInTime as done
 use Rattle.board_core.proofs.GoodFleets as fleets
 use Rattle.board_core.proofs.KeptPromises as kept
@@ -33,3 +33,15 @@ promises_done = done.done removals_keep_promises
 -- every legal history leaves a good fleet
 pub good_fleets : LegalHistoriesLeaveGoodFleets
 good_fleets = fleets.good_fleets removals_keep_promises
+
+-- a board before any entry is good
+pub opening_good : OpeningBoardsAreGood
+opening_good = fleets.opening_good
+
+-- each lawful entry leaves a good board good
+pub entry_good : EntriesLeaveGoodBoards
+entry_good = fleets.entry_good removals_keep_promises
+
+-- so do lawful entries one after another
+pub history_good : HistoriesLeaveGoodBoards
+history_good = fleets.history_good removals_keep_promises

@@ -1,6 +1,6 @@
 use Rattle.std.proofs.Common.{◌≡◌, ℕ, ◌+◌, ◌<◌, ◌≤◌, ◌==◌, ◌⊎◌, inl, inr, Bool, true, false, not, cond, List, [], ◌∷◌, ◌++◌, map, length, Option, Some, None, is_some, sym, refl, ap, ◌∙◌, subst, arith}
 use Rattle.std.specs.Prelude.{slice_get, slice_set, nat_lt, replicate, ◌&&◌, ◌||◌, OnOk, Result, Ok, Err}
-use Rattle.std.proofs.lemmas.Bool.{not-true, eqb-true, eq-eqb, and_parts, or_parts, leb-true, ltb-false}
+use Rattle.std.proofs.lemmas.Bool.{eqb-true, eq-eqb, and_parts, or_parts, leb-true, ltb-false}
 use Rattle.std.proofs.lemmas.Bool.Decides.{nat_tests}
 use Rattle.std.proofs.lemmas.Option.{same_Some, slice_get_within}
 use Rattle.std.proofs.lemmas.List.{length-map}
@@ -29,16 +29,16 @@ use Rattle.stop_removal.specs.declared.removal.Removal.{Removal}
 use Rattle.stop_removal.specs.Removals.{AreStopsOf}
 use Rattle.board_core.specs.declared.fleet.Fleet.{Fleet}
 use Rattle.board_core.specs.BoardCalls.{Applies, Commits, Removes, MayRemove, Cancels, FitsOn, FitsStarts}
-use Rattle.board_core.specs.BoardKept.{WithIndex, IsKeptFleet, IsKeptBoard, AreOpen, IsAccepted, IsKeptPlan, next_arrival, never}
-use Rattle.board_core.specs.Boards.{Board, Waiting, by_number, is_number, answer_of, is_cancelled, waiting_of, with_holder, with_next_version, without, opening_board, opening_car}
+use Rattle.board_core.specs.BoardKept.{WithIndex, IsKeptFleet, IsKeptBoard, AreAccepted, IsAccepted, IsKeptPlan, next_arrival, never}
+use Rattle.board_core.specs.Boards.{Board, Waiting, IsConsistent, by_number, is_number, answer_of, is_cancelled, waiting_of, with_holder, with_next_version, without, opening_board, opening_car}
 use Rattle.board_core.specs.Changes.{IsTakenOn, IsTakenOff, FitsLater}
 use Rattle.board_core.specs.Steps.{answered, refusal, cancel_refusal, cancel_refusal_by, is_to_pick_up, taken_on, taken_off, moved_car, with_car, with_cancelled}
 use Rattle.stop_schedule.specs.Limits.{latest_moment}
 use Rattle.board_core.proofs.Advances.{moved_plan}
 use Rattle.board_core.proofs.KeptPlans.{advanced_kept}
 use Rattle.board_core.proofs.KeptFleets.{changed_kept, fits_set, with_changed}
-use Rattle.board_core.proofs.Lookups.{found, kept_by, mapped, at_number, find_answer, lookup_insert, unanswered_still}
-use Rattle.board_core.proofs.SoundSteps.{last_or, accepted_new, passes}
+use Rattle.board_core.proofs.Lookups.{found, kept_by, mapped, at_number, find_answer, lookup_insert}
+use Rattle.board_core.proofs.Consistent.{last_or, passes, same_request, opening_consistent, submitted_consistent, held_consistent, answered_consistent, taken_consistent, removed_consistent, later_consistent}
 
 -- What each board meets stays so as entries are made.
 
@@ -46,26 +46,24 @@ use Rattle.board_core.proofs.SoundSteps.{last_or, accepted_new, passes}
 pub next_fleet_kept : (Fits : Fitting) (nodes : ℕ) (fleet : Cars) (arrivals : List ℕ) → IsKeptFleet Fits nodes fleet arrivals → IsKeptFleet Fits nodes (record fleet { version = fleet.version + 1 }) arrivals
 next_fleet_kept Fits nodes fleet arrivals h = record { graph = h.graph; many = h.many; fits = h.fits; clock = h.clock; plans = h.plans; next = h.next }
 
--- one that waits no more has its answer
-pub answered_open : (b : Board) (number : RequestNo) (decision : Decision) → AreOpen b → AreOpen (answered b number decision)
-answered_open b number decision h k w e = let x = kept_by (λ (w : Waiting). not (is_number w.request.no number)) b.waiting k w e in let o = h x.0 w x.1 in
-    (o.0, unanswered_still b.answers number w.request.no decision (not-true _ x.2) o.1)
+-- those that still wait are in range
+pub answered_accepted : (b : Board) (number : RequestNo) (decision : Decision) → AreAccepted b → AreAccepted (answered b number decision)
+answered_accepted b number decision h k w e = let x = kept_by (λ (w : Waiting). not (is_number w.request.no number)) b.waiting k w e in h x.0 w x.1
 
 pub answered_kept : (Fits : Fitting) (b : Board) (number : RequestNo) (decision : Decision) (arrivals : List ℕ) → IsKeptBoard Fits b arrivals → IsKeptBoard Fits (answered b number decision) arrivals
-answered_kept Fits b number decision arrivals h = record { fleet = next_fleet_kept Fits b.nodes b.fleet arrivals h.fleet; open_still = answered_open b number decision h.open_still }
+answered_kept Fits b number decision arrivals h = record {
+  fleet = next_fleet_kept Fits b.nodes b.fleet arrivals h.fleet;
+  accepted = answered_accepted b number decision h.accepted;
+  consistent = answered_consistent b number decision h.consistent;
+}
 
 -- another holder changes no request
 pub held_kept : (Fits : Fitting) (b : Board) (number : RequestNo) (holder : Option ℕ) (arrivals : List ℕ) → IsKeptBoard Fits b arrivals → IsKeptBoard Fits (record (with_next_version b) { waiting = with_holder number holder b.waiting }) arrivals
-held_kept Fits b number holder arrivals h = record { fleet = next_fleet_kept Fits b.nodes b.fleet arrivals h.fleet; open_still = held }
-  where
-    same : (w : Waiting) (c : Bool) → (cond c (record w { holder = holder }) w).request ≡ w.request
-    same w true = refl
-    same w false = refl
-
-    held : AreOpen (record (with_next_version b) { waiting = with_holder number holder b.waiting })
-    held k w e = let x = mapped (λ (w : Waiting). cond (is_number w.request.no number) (record w { holder = holder }) w) b.waiting k w e in
-        let r : w.request ≡ x.0.request = ap (λ (w : Waiting). w.request) x.2 ∙ same x.0 (is_number x.0.request.no number) in
-        subst (λ (r : Request). IsAccepted b.nodes r × (answer_of b r.no ≡ None)) (sym r) (h.open_still k x.0 x.1)
+held_kept Fits b number holder arrivals h = record {
+  fleet = next_fleet_kept Fits b.nodes b.fleet arrivals h.fleet;
+  accepted = λ k w e. (let x = same_request number holder b.waiting k w e in subst (IsAccepted b.nodes) (sym x.2) (h.accepted k x.0 x.1));
+  consistent = held_consistent b number holder h.consistent;
+}
 
 -- a request that is accepted is in range
 accepted_range : (b : Board) (r : Request) → refusal b r ≡ None → IsAccepted b.nodes r
@@ -96,11 +94,15 @@ accepted_range b r h =
 
 pub submitted_kept : (Fits : Fitting) (b : Board) (r : Request) (arrivals : List ℕ) → refusal b r ≡ None → IsKeptBoard Fits b arrivals
     → IsKeptBoard Fits (record (with_next_version b) { waiting = b.waiting ++ record { request = r; holder = None } ∷ [] }) arrivals
-submitted_kept Fits b r arrivals e h = record { fleet = next_fleet_kept Fits b.nodes b.fleet arrivals h.fleet; open_still = λ k w q. on k w (last_or b.waiting (record { request = r; holder = None }) k w q) }
+submitted_kept Fits b r arrivals e h = record {
+  fleet = next_fleet_kept Fits b.nodes b.fleet arrivals h.fleet;
+  accepted = λ k w q. on k w (last_or b.waiting (record { request = r; holder = None }) k w q);
+  consistent = submitted_consistent b r e h.consistent;
+}
   where
-    on : (k : ℕ) (w : Waiting) → (slice_get b.waiting k ≡ Some w) ⊎ (w ≡ record { request = r; holder = None }) → IsAccepted b.nodes w.request × (answer_of b w.request.no ≡ None)
-    on k w (inl x) = h.open_still k w x
-    on k w (inr x) = subst (λ (v : Waiting). IsAccepted b.nodes v.request × (answer_of b v.request.no ≡ None)) (sym x) (accepted_range b r e, accepted_new b r e)
+    on : (k : ℕ) (w : Waiting) → (slice_get b.waiting k ≡ Some w) ⊎ (w ≡ record { request = r; holder = None }) → IsAccepted b.nodes w.request
+    on k w (inl x) = h.accepted k w x
+    on k w (inr x) = subst (λ (v : Waiting). IsAccepted b.nodes v.request) (sym x) (accepted_range b r e)
 
 -- ---- a board before any entry
 
@@ -123,7 +125,8 @@ opening_kept Fits nodes rates vehicles f starts = record {
     plans = λ place car e. (let x = mapped opening_car vehicles place car e in subst (λ (c : Car). IsKeptPlan nodes rates 0 c.plan) (sym x.2) (opening x.0 (f.each place x.0 x.1)));
     next = none_ahead rates vehicles;
   };
-  open_still = λ k w e. cc;
+  accepted = λ k w e. cc;
+  consistent = opening_consistent nodes rates vehicles;
 }
   where
     opening : (v : Vehicle) → IsVehicle nodes v → IsKeptPlan nodes rates 0 (opening_of v)
@@ -192,7 +195,9 @@ pub taken_kept : (Before After : Fitting) (b : Board) (number : RequestNo) (a : 
     → IsKeptBoard After (with_car (answered b number (IsAssigned a)) place car) (slice_set arrivals place next)
 taken_kept Before After b number a direct place car next arrivals t h = record {
   fleet = changed_kept Before After b.nodes b.fleet arrivals (b.fleet.version + 1) place t.old car next h.fleet t.stands t.change;
-  open_still = answered_open b number (IsAssigned a) h.open_still;
+  accepted = answered_accepted b number (IsAssigned a) h.accepted;
+  consistent = subst (λ (c : Car). IsConsistent (with_car (answered b number (IsAssigned a)) place c)) (sym t.is)
+      (taken_consistent b number a direct t.waits place t.old h.consistent t.waiting t.stands);
 }
 
 pub taken_fits : (Before After : Fitting) (b : Board) (number : RequestNo) (a : Assigned) (direct place : ℕ) (car : Car) (next : ℕ) → IsTakenOn Before After b number a direct place car next
@@ -215,7 +220,8 @@ pub removed_kept : (Before After : Fitting) (b : Board) (number : RequestNo) (x 
     → IsKeptBoard After (with_car (with_cancelled b number) place car) (slice_set arrivals place next)
 removed_kept Before After b number x place car next arrivals t h = record {
   fleet = changed_kept Before After b.nodes b.fleet arrivals (b.fleet.version + 1) place t.old car next h.fleet t.stands t.change;
-  open_still = h.open_still;
+  accepted = h.accepted;
+  consistent = subst (λ (c : Car). IsConsistent (with_car (with_cancelled b number) place c)) (sym t.is) (removed_consistent b number x place t.old h.consistent t.stands);
 }
 
 pub removed_fits : (Before After : Fitting) (b : Board) (number : RequestNo) (x : Removal) (place : ℕ) (car : Car) (next : ℕ) → IsTakenOff Before After b number x place car next
@@ -254,7 +260,7 @@ place_within Fits nodes fleet arrivals place car h e = let l = slice_get_within 
 -- a number that waits has no answer
 pub none_yet : (Fits : Fitting) (b : Board) (arrivals : List ℕ) (number : RequestNo) (w : Waiting) → IsKeptBoard Fits b arrivals → waiting_of b number ≡ Some w → answer_of b number ≡ None
 none_yet Fits b arrivals number w h e = let f = found (λ (w : Waiting). is_number w.request.no number) b.waiting w e in let n : w.request.no.0 ≡ number.0 = eqb-true _ _ f.2 in
-    let same : w.request.no ≡ number = ap (λ (k : ℕ). let r : RequestNo = record { 0 = k } in r) n in subst (λ (r : RequestNo). answer_of b r ≡ None) same (h.open_still f.0 w f.1).1
+    let same : w.request.no ≡ number = ap (λ (k : ℕ). let r : RequestNo = record { 0 = k } in r) n in subst (λ (r : RequestNo). answer_of b r ≡ None) same (h.consistent.waiting f.0 w f.1)
 
 -- a board with an answer more, by its parts
 abbrev pub with_parts : Board → Cars → List Waiting → List (RequestNo × Decision) → Board
@@ -329,7 +335,8 @@ later_kept Before After b now arrivals cars next h early fits is next_is = recor
     plans = λ place car e. moved place car (mapped (moved_car b.fleet.rates (b.fleet.version + 1) now) b.fleet.cars place car (ap (λ (l : List Car). slice_get l place) (sym is) ∙ e));
     next = next_is;
   };
-  open_still = h.open_still;
+  accepted = h.accepted;
+  consistent = subst (λ (l : List Car). IsConsistent (record b { fleet = record b.fleet { clock = now; version = b.fleet.version + 1; cars = l } })) (sym is) (later_consistent b now h.consistent);
 }
   where
     moved : (place : ℕ) (car : Car) → (x : Car) × (slice_get b.fleet.cars place ≡ Some x) × (car ≡ moved_car b.fleet.rates (b.fleet.version + 1) now x) → IsKeptPlan b.nodes b.fleet.rates now car.plan

@@ -9,7 +9,7 @@ use Rattle.board_core.proofs.Advances.{slice_get-drop}
 use Rattle.board_core.proofs.Riders.{get_left, get_right}
 
 -- an element of the first elements of a list
-get_take : {X : Type 0} (xs : List X) (n k : ℕ) (x : X) → slice_get (take n xs) k ≡ Some x → (k < n) × (slice_get xs k ≡ Some x)
+pub get_take : {X : Type 0} (xs : List X) (n k : ℕ) (x : X) → slice_get (take n xs) k ≡ Some x → (k < n) × (slice_get xs k ≡ Some x)
 get_take xs zero k x h = cc
 get_take [] (suc n) k x h = cc
 get_take (y ∷ xs) (suc n) zero x h = (omega arith, h)

@@ -17,6 +17,7 @@ mod Queues
 mod Opened
 mod Riders
 mod LessStops
+mod Consistent
 mod SoundBoards
 mod SoundSteps
 mod LegalHistories
@@ -24,6 +25,8 @@ mod RidersLeft
 mod KeptPromises
 mod DoneInTime
 mod GoodFleets
+mod Versions
+mod LaterFleets
 mod Each
 mod KeptPlans
 mod KeptFleets
@@ -34,6 +37,6 @@ mod TakenOff
 mod Joints
 mod KeptBoards
 mod LastStops
-mod Leaving
+mod IsLeaving
 mod PossibleAnswers
 pub mod HistoryLaws

@@ -1,6 +1,6 @@
-use Rattle.std.proofs.Common.{◌≡◌, ℕ, zero, suc, ◌+◌, ◌-◌, ◌<◌, ◌≤◌, ◌⊎◌, inl, inr, true, false, not, List, length, Some, None, is_some, sym, refl, ap, ◌∙◌, subst, arith}
-use Rattle.std.specs.Prelude.{slice_get, slice_set}
-use Rattle.std.proofs.lemmas.Bool.{cases_eq, cases_order, not-true, eqb-true}
+use Rattle.std.proofs.Common.{◌≡◌, ℕ, zero, suc, ◌+◌, ◌-◌, ◌<◌, ◌≤◌, ◌⊎◌, inl, inr, false, List, length, Some, is_some, sym, refl, ap, ◌∙◌, subst, arith}
+use Rattle.std.specs.Prelude.{slice_get}
+use Rattle.std.proofs.lemmas.Bool.{cases_order}
 use Rattle.std.proofs.lemmas.Option.{cond_some, same_Some, slice_get_within}
 use Rattle.ride_base.specs.declared.numbers.RequestNo.{RequestNo}
 use Rattle.ride_base.specs.declared.numbers.VehicleNo.{VehicleNo}
@@ -8,17 +8,15 @@ use Rattle.road_graph.specs.Graphs.{IsGraph}
 use Rattle.road_graph.specs.Paths.{Path}
 use Rattle.road_graph.specs.Roads.{Roads}
 use Rattle.stop_schedule.specs.declared.request.Request.{Request}
-use Rattle.stop_schedule.specs.declared.stop.Stop.{Stop}
 use Rattle.stop_schedule.specs.declared.vehicle.Vehicle.{Vehicle}
 use Rattle.stop_schedule.specs.Bounds.{IsVehicle, AreVehicles}
 use Rattle.stop_schedule.specs.Fleets.{Car, Cars}
 use Rattle.stop_schedule.specs.Fronts.{front_of}
-use Rattle.stop_schedule.specs.Lists.{pickup_of, dropoff_of, inserted_in, changed_ends}
+use Rattle.stop_schedule.specs.Lists.{inserted_in, changed_ends}
 use Rattle.stop_schedule.specs.Plans.{Plan, opening_of}
 use Rattle.stop_schedule.specs.Rates.{Rates}
 use Rattle.stop_removal.specs.declared.removal.Removal.{Removal}
 use Rattle.stop_removal.specs.Laws.{RemovalsKeepPromises}
-use Rattle.stop_advance.specs.Advance.{reached_by, advanced_in}
 use Rattle.insertion_cost.specs.declared.decision.Assigned.{Assigned}
 use Rattle.insertion_cost.specs.declared.decision.Decision.{Decision}
 use Rattle.insertion_cost.specs.declared.decision.Decision.TheVariants.{Assigned as IsAssigned}
@@ -26,16 +24,15 @@ use Rattle.insertion_cost.specs.declared.offer.Offer.{Offer}
 use Rattle.stop_schedule.specs.Distances.{AreLeastWalks}
 use Rattle.insertion_cost.specs.Offers.{HasPrice, price_in}
 use Rattle.insertion_cost.specs.Prices.{Price, promise_of}
-use Rattle.board_core.specs.Boards.{Board, Waiting, opening_board, opening_car, is_number, waiting_of, answer_of}
+use Rattle.board_core.specs.Boards.{Board, Waiting, IsConsistent, opening_board, opening_car, is_number, waiting_of, answer_of}
 use Rattle.board_core.specs.Steps.{answered, taken_on, taken_off, with_car, with_cancelled, IsTaken, IsRemoved, at_clock, moved_car}
 use Rattle.board_core.proofs.StopCounts.{IsNew}
-use Rattle.board_core.proofs.Lookups.{found, kept_by, mapped, set_here, set_other, answered_now, answered_still, unanswered_still, AreDistinct}
-use Rattle.board_core.proofs.Advances.{slice_get-drop, moved_plan, moved_no, moved_stamp}
+use Rattle.board_core.proofs.Lookups.{found, mapped, AreDistinct}
+use Rattle.board_core.proofs.Advances.{moved_plan, moved_no, moved_stamp}
 use Rattle.board_core.proofs.Ahead.{new_ahead}
 use Rattle.board_core.proofs.GoodPlans.{IsGood, new_placed, advanced_good, removed_good}
-use Rattle.board_core.proofs.LessStops.{from_both}
+use Rattle.board_core.proofs.Consistent.{set_cases, opening_consistent, answered_consistent, cancelled_consistent, taken_consistent, removed_consistent, later_consistent}
 use Rattle.board_core.proofs.Inserts.{within}
-use Rattle.board_core.proofs.NewStops.{IsOneOf, both_cases}
 use Rattle.board_core.proofs.NewPlans.{fits, new_sound}
 
 -- What each vehicle of a board meets: its schedule is good at the clock, and its stamp isn't past the version.
@@ -50,13 +47,12 @@ AreSoundCars g fleet = (place : ℕ) (car : Car) → slice_get fleet.cars place 
 abbrev pub AreRising : List Car → Type 0
 AreRising cars = (k : ℕ) (car next : Car) → slice_get cars k ≡ Some car → slice_get cars (suc k) ≡ Some next → car.no.0 < next.no.0
 
--- What each board of a legal history meets: the vehicles are sound and stand in the order of their numbers, each of their stops has
--- an answered number, and no number that waits has an answer.
+-- What each board of a legal history meets: the vehicles are sound and stand in the order of their numbers, and the answers agree
+-- with the other parts.
 pub record IsSoundBoard (g : Roads) (b : Board) : Type 0 where
   pub cars : AreSoundCars g b.fleet
   pub rising : AreRising b.fleet.cars
-  pub answered : (place : ℕ) (car : Car) → slice_get b.fleet.cars place ≡ Some car → (k : ℕ) (s : Stop) → slice_get car.plan.stops k ≡ Some s → is_some (answer_of b s.no) ≡ true
-  pub waiting : (k : ℕ) (w : Waiting) → slice_get b.waiting k ≡ Some w → answer_of b w.request.no ≡ None
+  pub consistent : IsConsistent b
 
 -- rising numbers rise over any distance
 rises : (cars : List Car) → AreRising cars → (n k : ℕ) (c d : Car) → slice_get cars k ≡ Some c → slice_get cars (suc (k + n)) ≡ Some d → c.no.0 < d.no.0
@@ -102,8 +98,7 @@ opening_sound g rates vehicles f = record {
       subst (IsSoundCar g rates 0 0) (sym x.2) (record { plan = opening_plan g rates x.0 (f.each place x.0 x.1); stamp = omega arith }));
   rising = λ k car next a b. (let x = mapped opening_car vehicles k car a in let y = mapped opening_car vehicles (suc k) next b in let l = f.rising k x.0 y.0 x.1 y.1 in
       let p = ap (λ (c : Car). c.no.0) x.2 in let q = ap (λ (c : Car). c.no.0) y.2 in omega arith);
-  answered = λ place car e k s h. (let x = mapped opening_car vehicles place car e in let bad : slice_get (opening_of x.0).stops k ≡ Some s = subst (λ (c : Car). slice_get c.plan.stops k ≡ Some s) x.2 h in cc);
-  waiting = λ k w e. cc;
+  consistent = opening_consistent g.nodes rates vehicles;
 }
 
 -- no vehicle changes as the version is raised
@@ -115,30 +110,19 @@ pub answered_sound : (g : Roads) (b : Board) (number : RequestNo) (decision : De
 answered_sound g b number decision h = record {
   cars = next_cars g b.fleet h.cars;
   rising = h.rising;
-  answered = λ place car e k s q. answered_still b.answers number s.no decision (h.answered place car e k s q);
-  waiting = λ k w e. (let x = kept_by (λ (w : Waiting). not (is_number w.request.no number)) b.waiting k w e in unanswered_still b.answers number w.request.no decision (not-true _ x.2) (h.waiting x.0 w x.1));
+  consistent = answered_consistent b number decision h.consistent;
 }
 
 -- a board with a number more that is cancelled
 pub cancelled_sound : (g : Roads) (b : Board) (number : RequestNo) → IsSoundBoard g b → IsSoundBoard g (with_cancelled b number)
-cancelled_sound g b number h = record { cars = next_cars g b.fleet h.cars; rising = h.rising; answered = h.answered; waiting = h.waiting }
-
--- an element after a write is the new one, or an older one of another place
-set_cases : {X : Type 0} (xs : List X) (i : ℕ) (x y : X) (k : ℕ) (z : X) → slice_get xs i ≡ Some x → slice_get (slice_set xs i y) k ≡ Some z
-    → ((k ≡ i) × (z ≡ y)) ⊎ ((k ≡ i → ⊥) × (slice_get xs k ≡ Some z))
-set_cases {X = X} xs i x y k z e h = on (cases_eq k i)
-  where
-    on : (k ≡ i) ⊎ (k ≡ i → ⊥) → ((k ≡ i) × (z ≡ y)) ⊎ ((k ≡ i → ⊥) × (slice_get xs k ≡ Some z))
-    on (inl q) = inl (q, same_Some _ _ (sym h ∙ ap (slice_get (slice_set xs i y)) q ∙ set_here xs i x y e))
-    on (inr q) = inr (q, sym (set_other xs i k y q) ∙ h)
+cancelled_sound g b number h = record { cars = next_cars g b.fleet h.cars; rising = h.rising; consistent = cancelled_consistent b number h.consistent }
 
 -- a board with another schedule of one of its vehicles
 pub with_car_sound : (g : Roads) (b : Board) (place : ℕ) (old new : Car) → IsSoundBoard g b → slice_get b.fleet.cars place ≡ Some old → new.no ≡ old.no → IsSoundCar g b.fleet.rates b.fleet.clock b.fleet.version new
-    → ((k : ℕ) (s : Stop) → slice_get new.plan.stops k ≡ Some s → is_some (answer_of b s.no) ≡ true) → IsSoundBoard g (with_car b place new)
-with_car_sound g b place old new h e same sound answers = record {
+    → IsConsistent (with_car b place new) → IsSoundBoard g (with_car b place new)
+with_car_sound g b place old new h e same sound consistent = record {
   cars = λ k car q. each k car (set_cases b.fleet.cars place old new k car e q);
-  answered = λ k car q. stops k car (set_cases b.fleet.cars place old new k car e q);
-  waiting = h.waiting;
+  consistent = consistent;
   rising = λ k c d hk hn. (let x = stood k c (set_cases b.fleet.cars place old new k c e hk) in let y = stood (suc k) d (set_cases b.fleet.cars place old new (suc k) d e hn) in
       let l = h.rising k x.0 y.0 x.1 y.1 in let a = ap (λ (v : VehicleNo). v.0) x.2 in let b = ap (λ (v : VehicleNo). v.0) y.2 in omega arith);
 }
@@ -147,11 +131,6 @@ with_car_sound g b place old new h e same sound answers = record {
     each k car (inl x) = subst (IsSoundCar g b.fleet.rates b.fleet.clock b.fleet.version) (sym x.1) sound
     each k car (inr x) = h.cars k car x.1
 
-    stops : (k : ℕ) (car : Car) → ((k ≡ place) × (car ≡ new)) ⊎ ((k ≡ place → ⊥) × (slice_get b.fleet.cars k ≡ Some car)) → (m : ℕ) (s : Stop)
-        → slice_get car.plan.stops m ≡ Some s → is_some (answer_of b s.no) ≡ true
-    stops k car (inl x) m s q = answers m s (subst (λ (c : Car). slice_get c.plan.stops m ≡ Some s) x.1 q)
-    stops k car (inr x) m s q = h.answered k car x.1 m s q
-
     stood : (k : ℕ) (car : Car) → ((k ≡ place) × (car ≡ new)) ⊎ ((k ≡ place → ⊥) × (slice_get b.fleet.cars k ≡ Some car)) → (c : Car) × (slice_get b.fleet.cars k ≡ Some c) × (car.no ≡ c.no)
     stood k car (inl x) = (old, ap (slice_get b.fleet.cars) x.0 ∙ e, ap (λ (c : Car). c.no) x.1 ∙ same)
     stood k car (inr x) = (car, x.1, refl)
@@ -159,7 +138,7 @@ with_car_sound g b place old new h e same sound answers = record {
 -- a number that waits is in no schedule
 pub waiting_new : (g : Roads) (b : Board) (number : RequestNo) (w : Waiting) (place : ℕ) (car : Car) → IsSoundBoard g b → waiting_of b number ≡ Some w
     → slice_get b.fleet.cars place ≡ Some car → IsNew car.plan.stops w.request.no
-waiting_new g b number w place car h e q k s t same = let x = found (λ (w : Waiting). is_number w.request.no number) b.waiting w e in let some = h.answered place car q k s t in let none = h.waiting x.0 w x.1 in
+waiting_new g b number w place car h e q k s t same = let x = found (λ (w : Waiting). is_number w.request.no number) b.waiting w e in let some = h.consistent.planned place car q k s t in let none = h.consistent.waiting x.0 w x.1 in
     let n : s.no ≡ w.request.no = ap (λ (k : ℕ). let r : RequestNo = record { 0 = k } in r) same in
     let bad : is_some (answer_of b s.no) ≡ false = ap (λ (n : RequestNo). is_some (answer_of b n)) n ∙ ap is_some none in cc
 
@@ -190,24 +169,14 @@ taken_good g graph old number a new t h = let o = t.best.feasible in let e : o.c
 pub assigned_sound : (g : Roads) → IsGraph g → (old : Board) (number : RequestNo) (a : Assigned) (new : Board) → IsTaken g old number a new → IsSoundBoard g old → IsSoundBoard g new
 assigned_sound g graph old number a new t h = let s = taken_good g graph old number a new t h in subst (IsSoundBoard g) (sym t.leads_to)
     (with_car_sound g (answered old number (IsAssigned a)) a.offer.place t.car (taken_on old t.car t.waits.request t.direct a) (answered_sound g old number (IsAssigned a) h) t.stands refl (record { plan = s.0; stamp = omega arith })
-    (λ k x e. known k x (both_cases t.car.plan.stops a.offer.at (pickup_of t.waits.request (promise_of old.fleet.rates t.waits.request t.direct (price_in a.offer))) (dropoff_of t.waits.request (promise_of old.fleet.rates t.waits.request t.direct (price_in a.offer))) s.1 s.2 k x e)))
-  where
-    now : (x : Stop) → x.no ≡ t.waits.request.no → is_some (answer_of (answered old number (IsAssigned a)) x.no) ≡ true
-    now x e = let f = found (λ (w : Waiting). is_number w.request.no number) old.waiting t.waits t.waiting in answered_now old.answers number x.no (IsAssigned a) (ap (λ (n : RequestNo). n.0) e ∙ eqb-true _ _ f.2)
-
-    known : (k : ℕ) (x : Stop)
-        → IsOneOf t.car.plan.stops a.offer.at (pickup_of t.waits.request (promise_of old.fleet.rates t.waits.request t.direct (price_in a.offer))) (dropoff_of t.waits.request (promise_of old.fleet.rates t.waits.request t.direct (price_in a.offer))) k x
-        → is_some (answer_of (answered old number (IsAssigned a)) x.no) ≡ true
-    known k x (inl y) = now x (ap (λ (s : Stop). s.no) y.1)
-    known k x (inr (inl y)) = now x (ap (λ (s : Stop). s.no) y.1)
-    known k x (inr (inr y)) = answered_still old.answers number x.no (IsAssigned a) (h.answered a.offer.place t.car t.stands y.0 x y.1)
+    (taken_consistent old number a t.direct t.waits a.offer.place t.car h.consistent t.waiting t.stands))
 
 -- the new board of a lawful removal
 pub removed_sound : RemovalsKeepPromises → (g : Roads) → IsGraph g → (old : Board) (number : RequestNo) (x : Removal) (new : Board) → IsRemoved g old number x new → IsSoundBoard g old → IsSoundBoard g new
 removed_sound removals g graph old number x new t h = subst (IsSoundBoard g) (sym t.leads_to)
     (with_car_sound g (with_cancelled old number) t.assigned.offer.place t.car (taken_off old t.car x) (cancelled_sound g old number h) t.stands refl
     (record { plan = removed_good removals g graph old.fleet.rates old.fleet.clock t.car.plan number x.pickup x.dropoff x.walks (h.cars t.assigned.offer.place t.car t.stands).plan t.stops t.walks; stamp = omega arith })
-    (λ k s e. (let y = from_both t.car.plan.stops x.pickup x.dropoff k s e in h.answered t.assigned.offer.place t.car t.stands y.0 s y.1)))
+    (removed_consistent old number x t.assigned.offer.place t.car h.consistent t.stands))
 
 -- the board at a later clock
 pub later_sound : (g : Roads) → IsGraph g → (b : Board) (now : ℕ) → IsSoundBoard g b → IsSoundBoard g (at_clock b now)
@@ -217,9 +186,7 @@ later_sound g graph b now h = record {
     stamp = moved_stamp b.fleet.rates b.fleet.version now x.0 (h.cars place x.0 x.1).stamp;
   }));
   rising = λ k c d hk hn. (let x = stood k c hk in let y = stood (suc k) d hn in let l = h.rising k x.0 y.0 x.1 y.1 in let a = number x.0 c x.2 in let b = number y.0 d y.2 in omega arith);
-  answered = λ place car e k s q. (let x = stood place car e in let y : slice_get (advanced_in b.fleet.rates x.0.plan now).stops k ≡ Some s = subst (λ (p : Plan). slice_get p.stops k ≡ Some s) (ap (λ (c : Car). c.plan) x.2 ∙ moved_plan b.fleet.rates (b.fleet.version + 1) now x.0) q in
-      h.answered place x.0 x.1 _ s (sym (slice_get-drop (reached_by b.fleet.rates x.0.plan now) x.0.plan.stops k) ∙ y));
-  waiting = h.waiting;
+  consistent = later_consistent b now h.consistent;
 }
   where
     stood : (place : ℕ) (car : Car) → slice_get (at_clock b now).fleet.cars place ≡ Some car

@@ -36,7 +36,7 @@ pub ready : (Fits : Fitting) (b : Board) (arrivals : List ℕ) (number : Request
 ready Fits b arrivals number a direct w kept may waits = let p = may.2 in record {
   car = p.car;
   stands = p.stands;
-  accepted = (let f = found (λ (w : Waiting). is_number w.request.no number) b.waiting w waits in (kept.open_still f.0 w f.1).0);
+  accepted = (let f = found (λ (w : Waiting). is_number w.request.no number) b.waiting w waits in kept.accepted f.0 w f.1);
   plan = kept.fleet.plans a.offer.place p.car p.stands;
   priced = subst (λ (r : Request). IsPriced b.fleet.rates p.car.plan (front_of p.car.plan b.fleet.clock) r a.offer.at a.walks a.offer.leave a.offer.arrive) same
       (priced_so b.fleet.rates p.car.plan (front_of p.car.plan b.fleet.clock) may.0.request a.offer.at direct p.cost a.offer.leave a.offer.arrive a.walks p.priced_so);

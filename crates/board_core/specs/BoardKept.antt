@@ -1,4 +1,4 @@
-use Rattle.std.specs.Prelude.{◌≡◌, ℕ, ◌-◌, ◌^◌, ◌≤◌, ◌==◌, Bool, true, cond, List, map, length, None, Some, slice_get}
+use Rattle.std.specs.Prelude.{◌≡◌, ℕ, ◌-◌, ◌^◌, ◌≤◌, ◌==◌, Bool, true, cond, List, map, length, Some, slice_get}
 use Rattle.ride_base.specs.declared.numbers.RequestNo.{RequestNo}
 use Rattle.road_graph.specs.Paths.{Path}
 use Rattle.road_graph.specs.Roads.{Roads}
@@ -15,7 +15,8 @@ use Rattle.stop_schedule.specs.Rates.{Rates}
 use Rattle.stop_schedule.specs.Times.{arrives}
 use Rattle.board_core.specs.declared.fleet.Fleet.{Fleet}
 use Rattle.board_core.specs.BoardCalls.{AreWithin}
-use Rattle.board_core.specs.Boards.{Board, Waiting, answer_of}
+use Rattle.board_core.specs.Boards.{Board, Waiting, IsConsistent}
+use Rattle.board_core.specs.FleetViews.{cars_of}
 
 -- a board as contracts see it: a board of the definitions, and the index of its fleet
 pub record WithIndex (I : Type 0) : Type 0 where
@@ -25,6 +26,29 @@ pub record WithIndex (I : Type 0) : Type 0 where
   pub waiting : List Waiting
   pub answers : List (RequestNo × Decision)
   pub cancelled : List RequestNo
+
+-- the parts of such a board, put together
+abbrev pub with_index : {I : Type 0} → ℕ → Fleet I → Bool → List Waiting
+    → List (RequestNo × Decision) → List RequestNo → WithIndex I
+with_index nodes fleet closed waiting answers cancelled = record {
+  nodes = nodes;
+  fleet = fleet;
+  closed = closed;
+  waiting = waiting;
+  answers = answers;
+  cancelled = cancelled;
+}
+
+-- what it is, apart from the index of its fleet
+abbrev pub board_of : {I : Type 0} → WithIndex I → Board
+board_of b = record {
+  nodes = b.nodes;
+  fleet = cars_of b.fleet;
+  closed = b.closed;
+  waiting = b.waiting;
+  answers = b.answers;
+  cancelled = b.cancelled;
+}
 
 -- the moment of a vehicle that has no stop
 abbrev pub never : ℕ
@@ -71,11 +95,16 @@ pub record IsAccepted (nodes : ℕ) (r : Request) : Type 0 where
   pub spaces : r.spaces ≤ most_riders
   pub moment : r.moment ≤ latest_moment
 
--- each request that waits has no answer
-abbrev pub AreOpen : Board → Type 0
-AreOpen b = (k : ℕ) (w : Waiting) → slice_get b.waiting k ≡ Some w → IsAccepted b.nodes w.request × (answer_of b w.request.no ≡ None)
+abbrev pub AreAccepted : Board → Type 0
+AreAccepted b = (k : ℕ) (w : Waiting) → slice_get b.waiting k ≡ Some w
+    → IsAccepted b.nodes w.request
 
 -- what each board meets, with the next arrivals that it keeps
 pub record IsKeptBoard (Fits : Fitting) (b : Board) (arrivals : List ℕ) : Type 0 where
   pub fleet : IsKeptFleet Fits b.nodes b.fleet arrivals
-  pub open_still : AreOpen b
+  pub accepted : AreAccepted b
+  pub consistent : IsConsistent b
+
+-- that, of a board with an index that is said to fit
+abbrev pub IsKept : {I : Type 0} → (I → Fitting) → WithIndex I → List ℕ → Type 0
+IsKept fits b arrivals = IsKeptBoard (fits b.fleet.index) (board_of b) arrivals

@@ -5,13 +5,8 @@ use Rattle.stop_schedule.specs.declared.request.Request.{Request}
 use Rattle.board_core.specs.declared.entry.Entry.{Entry}
 use Rattle.board_core.specs.declared.entry.Entry.TheVariants.{Claim}
 use Rattle.board_core.specs.Boards.{Board, Waiting, waiting_of, oldest_unheld}
-use Rattle.board_core.specs.BoardKept.{WithIndex}
-use Rattle.board_core.specs.FleetViews.{cars_of}
 use Rattle.board_core.specs.Steps.{Step}
-
--- what a board is, apart from the index of its fleet
-abbrev pub board_of : {I : Type 0} → WithIndex I → Board
-board_of b = record { nodes = b.nodes; fleet = cars_of b.fleet; closed = b.closed; waiting = b.waiting; answers = b.answers; cancelled = b.cancelled }
+pub use Rattle.board_core.specs.BoardKept.{board_of}
 
 abbrev pub request_of : Waiting → Request
 request_of w = w.request

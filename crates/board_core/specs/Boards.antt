@@ -1,9 +1,10 @@
-use Rattle.std.specs.Prelude.{ℕ, ◌+◌, ◌||◌, Bool, false, List, [], map, Option, is_some}
+use Rattle.std.specs.Prelude.{◌≡◌, ℕ, ◌+◌, ◌||◌, Bool, false, List, [], map, Option, Some, None, is_some, slice_get, IsSome}
 use Rattle.std.specs.BTreeMap.{is_at}
 use Rattle.std.specs.List.{list_any}
 use Rattle.std.specs.Map.{lookup}
 use Rattle.ride_base.specs.declared.numbers.RequestNo.{RequestNo}
 use Rattle.insertion_cost.specs.declared.decision.Decision.{Decision}
+use Rattle.stop_schedule.specs.declared.stop.Stop.{Stop}
 use Rattle.stop_schedule.specs.declared.vehicle.Vehicle.{Vehicle}
 use Rattle.stop_schedule.specs.Fleets.{Car, Cars}
 use Rattle.stop_schedule.specs.Plans.{opening_of}
@@ -62,3 +63,11 @@ oldest_unheld b = unheld_in b.waiting
 -- each entry raises the version by one
 abbrev pub with_next_version : Board → Board
 with_next_version b = record b { fleet = record b.fleet { version = b.fleet.version + 1 } }
+
+-- The answers of a board agree with its other parts: each stop of a schedule is of a number that has its answer, and no number that
+-- waits has one.
+pub record IsConsistent (b : Board) : Type 0 where
+  pub planned : (place : ℕ) (car : Car) → slice_get b.fleet.cars place ≡ Some car
+      → (k : ℕ) (s : Stop) → slice_get car.plan.stops k ≡ Some s → IsSome (answer_of b s.no)
+  pub waiting : (k : ℕ) (w : Waiting) → slice_get b.waiting k ≡ Some w
+      → answer_of b w.request.no ≡ None

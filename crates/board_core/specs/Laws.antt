@@ -1,4 +1,4 @@
-use Rattle.std.specs.Prelude.{◌≡◌, ℕ, suc, ◌<◌, ◌≤◌, ◌^◌, false, List, ◌∷◌, ◌++◌, length, Some, None, slice_get}
+use Rattle.std.specs.Prelude.{◌≡◌, ℕ, suc, ◌+◌, ◌<◌, ◌≤◌, ◌^◌, false, List, ◌∷◌, ◌++◌, length, Some, None, slice_get}
 use Rattle.ride_base.specs.declared.numbers.RequestNo.{RequestNo}
 use Rattle.ride_base.specs.declared.numbers.VehicleNo.{VehicleNo}
 use Rattle.road_graph.specs.Graphs.{IsGraph}
@@ -24,10 +24,10 @@ use Rattle.board_core.specs.declared.entry.Advanced.TheVariants.{Moved}
 use Rattle.board_core.specs.declared.entry.Entry.{Entry}
 use Rattle.board_core.specs.declared.entry.Entry.TheVariants.{Advance}
 use Rattle.board_core.specs.BoardCalls.{IsAnswerTo, IsPossibleFor, HasLeastJoins, MayRemove}
-use Rattle.board_core.specs.Boards.{Board, Waiting, answer_of, opening_board}
+use Rattle.board_core.specs.Boards.{Board, IsConsistent, Waiting, answer_of, opening_board}
 use Rattle.board_core.specs.Histories.{Legal}
 use Rattle.board_core.specs.Promises.{KeepsPromises, IsServedStop, WasAssigned, have_cancelled, served_through}
-use Rattle.board_core.specs.Steps.{cancel_refusal}
+use Rattle.board_core.specs.Steps.{Step, cancel_refusal}
 
 -- Every legal history keeps its promises: over every graph, with every parameters and from every fleet.
 abbrev pub LegalHistoriesKeepPromises : Type 0
@@ -62,6 +62,45 @@ abbrev pub LegalHistoriesLeaveGoodFleets : Type 0
 LegalHistoriesLeaveGoodFleets = (g : Roads) (rates : Rates) (vehicles : List Vehicle) (history : List Entry) (last : Board)
     → IsGraph g → AreVehicles g.nodes vehicles → HasEarlyMoves history → Legal g (opening_board g.nodes rates vehicles) history last
     → IsGoodFleet g last.fleet
+
+-- ---- good boards
+
+-- a board is good over a graph: its fleet is, and its answers agree with its other parts
+pub record IsGoodBoard (g : Roads) (b : Board) : Type 0 where
+  pub fleet : IsGoodFleet g b.fleet
+  pub consistent : IsConsistent b
+
+-- a board before any entry is good over each graph of its nodes
+abbrev pub OpeningBoardsAreGood : Type 0
+OpeningBoardsAreGood = (g : Roads) (rates : Rates) (vehicles : List Vehicle)
+    → AreVehicles g.nodes vehicles → IsGoodBoard g (opening_board g.nodes rates vehicles)
+
+-- if the entry is a move of the clock, then to a moment that is at most the latest one
+abbrev pub IsEarlyMove : Entry → Type 0
+IsEarlyMove e = (now : ℕ) (advanced : Advanced) → e ≡ Advance now advanced → now ≤ latest_moment
+
+-- each lawful entry leaves a good board good
+abbrev pub EntriesLeaveGoodBoards : Type 0
+EntriesLeaveGoodBoards = (g : Roads) (old : Board) (e : Entry) (new : Board)
+    → IsGraph g → IsEarlyMove e → Step g old e new → IsGoodBoard g old → IsGoodBoard g new
+
+-- so do lawful entries one after another, from any good board on
+abbrev pub HistoriesLeaveGoodBoards : Type 0
+HistoriesLeaveGoodBoards = (g : Roads) (first : Board) (history : List Entry) (last : Board)
+    → IsGraph g → HasEarlyMoves history → Legal g first history last → IsGoodBoard g first
+    → IsGoodBoard g last
+
+-- a board of the same nodes and parameters, so many entries later
+pub record IsLater (old new : Board) (entries : ℕ) : Type 0 where
+  pub nodes : new.nodes ≡ old.nodes
+  pub rates : new.fleet.rates ≡ old.fleet.rates
+  pub vehicles : length new.fleet.cars ≡ length old.fleet.cars
+  pub version : new.fleet.version ≡ old.fleet.version + entries
+
+-- each entry of a history raises the version by one, and nodes, parameters and vehicles stay as many
+abbrev pub HistoriesRaiseVersions : Type 0
+HistoriesRaiseVersions = (g : Roads) (first : Board) (history : List Entry) (last : Board)
+    → Legal g first history last → IsLater first last (length history)
 
 -- ---- what is right over a graph is possible on the board
 

@@ -10,7 +10,9 @@ pub mod Changes
 pub mod Histories
 pub mod Promises
 pub mod Laws
+pub mod CandidateLaws
 pub mod Samples
+pub mod CallSamples
 pub use Rattle.insertion_cost.specs.Prices
 pub use Rattle.stop_schedule.specs.Distances
 pub use Rattle.insertion_cost.specs.Offers

@@ -76,7 +76,7 @@ closed_first : refusal (record with_one { closed = true }) (ride 1 9 9 0 99) ≡
 closed_first = refl
 
 -- three vehicles under way, idle, and not yet begun: the first serves both its stops and gets the new version as its stamp
-abbrev car : ℕ → ℕ → Car
+abbrev pub car : ℕ → ℕ → Car
 car number stamp = record { no = record { 0 = number }; plan = first; stamp = stamp }
 
 abbrev under_way : Board
@@ -102,24 +102,24 @@ second_alone = refl
 -- ---- A day on the line of four nodes, with vehicle 1 at node 1 and vehicle 2 at node 4. The first request goes from 3 to 1 and its
 -- moment is 40; the second one is for three riders, where each vehicle has two seats.
 
-abbrev one : Request
+abbrev pub one : Request
 one = ride 1 3 1 40 1
 
-abbrev two : Request
+abbrev pub two : Request
 two = ride 2 2 4 0 3
 
 abbrev dawn : Board
 dawn = opening_board 4 usual (car_1 ∷ record car_1 { no = record { 0 = 2 }; start = node 4 } ∷ [])
 
-abbrev idle : Car
+abbrev pub idle : Car
 idle = record { no = record { 0 = 1 }; plan = opened; stamp = 0 }
 
-abbrev other : Car
+abbrev pub other : Car
 other = record { no = record { 0 = 2 }; plan = record opened { place = node 4 }; stamp = 0 }
 
 -- Answered at 50 the first request is picked up at 60 and left at 62, past its moment and the wait limit of 20, and over at 82, before
 -- its moment and the trip limit of 2 times 20 and 10: 34 for the way and the stops, and 2 for the wait.
-abbrev taken : Assigned
+abbrev pub taken : Assigned
 taken = record { offer = record { cost = 36; no = other.no; place = 1; at = at 0 0; leave = 62; arrive = 82 }; walks = path 4 0 (3 ∷ []) (10 ∷ []) ∷ path 3 0 (2 ∷ 1 ∷ []) (10 ∷ 20 ∷ []) ∷ [] }
 
 abbrev on : Stop
@@ -138,11 +138,11 @@ dropping = record other { plan = record other.plan { place = node 3; departure =
 abbrev answers : List (RequestNo × Decision)
 answers = (one.no, IsAssigned taken) ∷ (two.no, Nobody) ∷ []
 
-abbrev waits : Request → Option ℕ → Waiting
+abbrev pub waits : Request → Option ℕ → Waiting
 waits r holder = record { request = r; holder = holder }
 
 -- the day's boards: what changes from one to the next
-abbrev now : (version clock : ℕ) → Bool → List Car → List Waiting → List (RequestNo × Decision) → Board
+abbrev pub now : (version clock : ℕ) → Bool → List Car → List Waiting → List (RequestNo × Decision) → Board
 now version clock closed cars waiting answers = record { nodes = 4; fleet = record { rates = usual; clock = clock; version = version; cars = cars }; closed = closed; waiting = waiting; answers = answers; cancelled = [] }
 
 -- entries, each with the board that it leaves
@@ -176,7 +176,7 @@ morning =
     ∷ (Commit two.no Nobody, now 11 50 true (idle ∷ other ∷ []) (waits one (Some 8) ∷ []) ((two.no, Nobody) ∷ []))
     ∷ []
 
-abbrev at_noon : Board
+abbrev pub at_noon : Board
 at_noon = last_of dawn morning
 
 abbrev got_on : Served
@@ -198,14 +198,14 @@ evening_is_legal : (g : Roads) → IsBest g at_noon.fleet one taken.offer → Is
 evening_is_legal g best far walks = legal g at_noon evening (record { waits = waits one (Some 8); direct = 20; car = other; waiting = refl; best = best; direct_way = far; stands = refl; walks = walks; leads_to = refl }, ((lit≤ tt, refl, refl), ((refl, refl), tt)))
 
 -- at 5 the vehicle is under way, and turns at node 2, where it is at 10
-abbrev turning : Assigned
-turning = record { offer = record { cost = 65; no = idle.no; place = 0; at = at 0 2; leave = 12; arrive = 66 }; walks = path 2 0 [] [] ∷ path 2 0 [] [] ∷ path 4 0 (3 ∷ 2 ∷ 1 ∷ []) (10 ∷ 20 ∷ 30 ∷ []) ∷ [] }
+abbrev pub turning : Assigned
+turning = record { offer = record { cost = 61; no = idle.no; place = 0; at = at 0 2; leave = 12; arrive = 64 }; walks = path 2 0 [] [] ∷ path 2 0 [] [] ∷ path 4 0 (3 ∷ 2 ∷ 1 ∷ []) (10 ∷ 20 ∷ 30 ∷ []) ∷ [] }
 
 abbrev turned : Plan
 turned = record first {
   place = node 2;
   departure = 10;
-  stops = record { node = node 2; kind = Pickup; no = two.no; riders = 1; ready = 5; limit = 25; spaces = 0 } ∷ first.stops ++ record { node = node 1; kind = Dropoff; no = two.no; riders = 1; ready = 0; limit = 66; spaces = 0 } ∷ [];
+  stops = record { node = node 2; kind = Pickup; no = two.no; riders = 1; ready = 5; limit = 25; spaces = 0 } ∷ first.stops ++ record { node = node 1; kind = Dropoff; no = two.no; riders = 1; ready = 0; limit = 64; spaces = 0 } ∷ [];
   legs = path 2 0 [] [] ∷ path 2 0 [] [] ∷ path 2 0 (3 ∷ 4 ∷ []) (10 ∷ 20 ∷ []) ∷ path 4 0 (3 ∷ 2 ∷ 1 ∷ []) (10 ∷ 20 ∷ 30 ∷ []) ∷ [];
 }
 
@@ -227,14 +227,14 @@ on_its_way = refl
 
 -- ---- cancellations
 
-abbrev given : Assigned
+abbrev pub given : Assigned
 given = record { offer = record { cost = 34; no = idle.no; place = 0; at = at 0 0; leave = 12; arrive = 32 }; walks = first.legs }
 
-abbrev numbered : ℕ → RequestNo
+abbrev pub numbered : ℕ → RequestNo
 numbered n = record { 0 = n }
 
 -- Requests 1 and 2 were given vehicle 1, request 3 has no vehicle, request 4 waits, and the riders of request 6 cancelled.
-abbrev both_given : Board
+abbrev pub both_given : Board
 both_given = record (now 4 0 false (record (car 1 2) { plan = both_on } ∷ []) (waits (ride 4 2 3 0 1) None ∷ [])
     ((numbered 1, IsAssigned given) ∷ (numbered 2, IsAssigned given) ∷ (numbered 3, Nobody) ∷ (numbered 6, IsAssigned given) ∷ [])) { cancelled = numbered 6 ∷ [] }
 
@@ -272,7 +272,7 @@ cancelled_first g walks = record {
   leads_to = refl;
 }
 
-abbrev alone : Board
+abbrev pub alone : Board
 alone = now 2 5 false (car 1 2 ∷ []) [] ((numbered 1, IsAssigned given) ∷ [])
 
 free_again : (g : Roads) → Step g alone (Cancel (numbered 1) (Removed (record { no = idle.no; pickup = 1; dropoff = 2; walks = [] })))

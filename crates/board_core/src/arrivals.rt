@@ -1,5 +1,7 @@
-ghost use Rattle.std.specs.Prelude.{◌≡◌, ℕ, ◌+◌, ◌*◌, ◌-◌, ◌^◌, ◌<◌, ◌≤◌, length, drop, replicate, slice_index, slice_set, IfOk};
-ghost use Rattle.board_core.specs.Arrivals.{HaveLeast, IsDue, IsFirstBy, IsTree, PassesNone, leaves_of};
+ghost use Rattle.std.specs.Prelude.{◌≡◌, ℕ, ◌+◌, ◌*◌, ◌-◌, ◌^◌, ◌<◌, ◌≤◌, length, drop, replicate};
+ghost use Rattle.std.specs.Prelude.{slice_index, slice_set, IfOk};
+ghost use Rattle.board_core.specs.Arrivals.{HaveLeast, IsDue, IsFirstBy, IsTree, PassesNone};
+ghost use Rattle.board_core.specs.Arrivals.{leaves_of};
 
 use ride_base::NoMemory;
 use std::alloc::Global;

@@ -1,7 +1,10 @@
-ghost use Rattle.std.specs.Prelude.{◌≡◌, ℕ, ◌+◌, ◌<◌, ◌≤◌, ◌^◌, ◌++◌, ◌↔◌, IsTrue, true, length, flat_map, option_to_list, slice_get, slice_set, IfOk, IsOk, OnOk, OnErr, IfSome};
+ghost use Rattle.std.specs.Prelude.{◌≡◌, ℕ, ◌+◌, ◌<◌, ◌≤◌, ◌^◌, ◌++◌, ◌↔◌, IsTrue, true, length};
+ghost use Rattle.std.specs.Prelude.{flat_map, option_to_list, slice_get, slice_set, IfOk, IsOk};
+ghost use Rattle.std.specs.Prelude.{OnOk, OnErr, IfSome};
 ghost use Rattle.std.specs.List.{list_any};
 ghost use Rattle.board_core.specs.BoardKept.{next_arrival};
-ghost use Rattle.board_core.specs.Changes.{AreJoinable, IsChangedTo, IsFrontAt, IsGraphOf, IsNextStop};
+ghost use Rattle.board_core.specs.Changes.{AreJoinable, IsChangedTo, IsFrontAt, IsGraphOf};
+ghost use Rattle.board_core.specs.Changes.{IsNextStop};
 ghost use Rattle.board_core.specs.FleetViews.{cars_of};
 ghost use Rattle.board_core.specs.Steps.{is_to_pick_up};
 ghost use Rattle.stop_removal.specs.Removals.{AreStopsOf};

@@ -1,5 +1,8 @@
+ghost use Rattle.std.specs.Prelude.{◌≡◌, IfOk};
+
 use insertion_cost::Decision;
-use ride_base::{Items, RequestNo, VehicleNo};
+use ride_base::{Items, NoMemory, RequestNo, VehicleNo};
+use std::alloc::Global;
 use stop_advance::Served;
 use stop_removal::Removal;
 use stop_schedule::Request;
@@ -38,6 +41,21 @@ pub enum Advanced {
         /// The clock.
         clock: u64,
     },
+}
+
+impl Advanced {
+    /// An equal one. After an error nothing of it is left.
+    pub fn share(&self, alloc: Global) -> Result<Advanced, NoMemory>
+        ensures { IfOk result (λ advanced. advanced ≡ self.now) }
+    {
+        match self {
+            Advanced::Moved(served) => {
+                let served = Items::from_slice(alloc, served.as_slice())?;
+                Ok(Advanced::Moved(served))
+            }
+            Advanced::Back { clock } => Ok(Advanced::Back { clock: *clock }),
+        }
+    }
 }
 
 /// Why a cancellation is refused. At most one of these holds.

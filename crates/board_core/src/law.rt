@@ -1,6 +1,13 @@
 ghost use Rattle.board_core.specs.Laws.{LegalHistoriesKeepPromises, PromisesAreDoneInTime};
 ghost use Rattle.board_core.specs.Laws.{LegalHistoriesLeaveGoodFleets};
+ghost use Rattle.board_core.specs.Laws.{OpeningBoardsAreGood, EntriesLeaveGoodBoards};
+ghost use Rattle.board_core.specs.Laws.{HistoriesLeaveGoodBoards, HistoriesRaiseVersions};
 ghost use Rattle.board_core.specs.Laws.{AnswersArePossible, RemovalsArePossible};
+ghost use Rattle.board_core.specs.BoardViews.{board_of};
+ghost use Rattle.board_core.specs.Boards.{IsConsistent};
+
+use crate::board::Board;
+use stop_schedule::FleetIndex;
 
 /// Every legal history keeps its promises, and what was promised for a moment before the clock has happened. It does nothing: the
 /// laws are its contract.
@@ -13,6 +20,27 @@ pub fn promises_are_kept()
 pub fn fleets_stay_good()
     ensures { LegalHistoriesLeaveGoodFleets }
 {}
+
+/// A board before any entry is good over each graph of its nodes, and lawful entries leave a good board good, one or more, from any
+/// good board on. It does nothing: the laws are its contract.
+pub fn boards_stay_good()
+    ensures opening { OpeningBoardsAreGood }
+    ensures entry { EntriesLeaveGoodBoards }
+    ensures entries { HistoriesLeaveGoodBoards }
+{}
+
+/// A history raises the version by one for each of its entries. It does nothing: the law is its contract.
+pub fn versions_rise()
+    ensures { HistoriesRaiseVersions }
+{}
+
+/// On each board the answers agree with its other parts, so it is good over each graph over which its fleet is. It does nothing: the
+/// law is its contract.
+pub fn boards_are_consistent<I: FleetIndex>(board: &Board<I>)
+    ensures { IsConsistent (board_of board.now) }
+{
+    let _nodes = board.nodes;
+}
 
 /// Each answer over a graph of a board's nodes is possible on that board, and the direct way of an assignment is shorter than 2^53, in the
 /// units of the roads' weights. It does nothing: the law is its contract.

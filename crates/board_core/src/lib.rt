@@ -3,17 +3,25 @@
 //! keeps its promises and leaves the fleet good over its graph.
 #![tactic(auto)]
 
+mod answers;
 mod arrivals;
 mod board;
+mod cancels;
+mod candidates;
 mod changes;
 mod entry;
 mod fleet;
 mod law;
 mod moves;
+mod requests;
 mod waiting;
 
 pub use board::Board;
+pub use candidates::candidates_stay_sound;
 pub use entry::{Advanced, CancelReason, Cancelled, Entry, Reason, Submitted};
 pub use fleet::Fleet;
-pub use law::{answers_are_possible, fleets_stay_good, promises_are_kept, removals_are_possible};
+pub use law::{
+    answers_are_possible, boards_are_consistent, boards_stay_good, fleets_stay_good,
+    promises_are_kept, removals_are_possible, versions_rise,
+};
 pub use waiting::Waiting;

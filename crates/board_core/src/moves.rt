@@ -1,19 +1,25 @@
-ghost use Rattle.std.specs.Prelude.{◌≡◌, ℕ, ◌+◌, ◌<◌, ◌≤◌, ◌^◌, ◌++◌, true, length, map, slice_get, IfOk, OnOk};
+ghost use Rattle.std.specs.Prelude.{◌≡◌, ℕ, ◌+◌, ◌<◌, ◌≤◌, ◌^◌, ◌++◌, true, length, map, slice_get};
+ghost use Rattle.std.specs.Prelude.{IfOk, IsOk, OnOk, OnErr};
+ghost use Rattle.board_core.specs.BoardCalls.{FitsOn};
 ghost use Rattle.board_core.specs.BoardKept.{IsKeptFleet, next_arrival};
+ghost use Rattle.board_core.specs.BoardViews.{board_of, Enters};
 ghost use Rattle.board_core.specs.Changes.{AreMovedFrom, FitsLater, IsReachedBy, MayAdvance};
 ghost use Rattle.board_core.specs.FleetViews.{cars_of};
 ghost use Rattle.board_core.specs.Steps.{moved_car, served_in, served_with};
+ghost use Rattle.board_core.specs.declared.entry.Entry.TheVariants as entry;
 ghost use Rattle.stop_schedule.specs.Fleets.{Car};
 ghost use Rattle.stop_schedule.specs.Keeping.{keeps};
 ghost use Rattle.stop_schedule.specs.Limits.{latest_moment};
 
 use crate::arrivals::{Arrivals, NEVER};
+use crate::board::Board;
+use crate::entry::Advanced;
 use crate::fleet::{Fleet, FleetCar, SharedCar};
 use ride_base::{Items, NoMemory, VehicleNo};
 use road_graph::Steps;
 use std::alloc::Global;
 use stop_advance::{Served, advanced};
-use stop_schedule::{FleetIndex, Params, Schedule};
+use stop_schedule::{FleetIndex, FleetView, Params, Schedule};
 use version_array::VersionArray;
 
 /// The vehicles of a fleet at a later clock, their index, and the stops that they reached by then.
@@ -106,8 +112,8 @@ impl<I: FleetIndex + Drop> Moved<I> {
         requires change { (car : Car) → slice_get self.old.cars place ≡ Some car
             → MayAdvance (I.fits self.old.index) params.now now place car }
         ensures ok { OnOk result ((car : Car) → slice_get self.old.cars place ≡ Some car
-            → IsReachedBy (I.fits self.old.index) (I.fits self.new.index) params.now now stamp place car
-            self.old.cars self.new.cars self.old.served self.new.served) }
+            → IsReachedBy (I.fits self.old.index) (I.fits self.new.index) params.now now
+            stamp place car self.old.cars self.new.cars self.old.served self.new.served) }
         ensures steps { steps.old.0 ≤ steps.new.0 }
         ensures asks { steps.new.1 ≡ steps.old.1 }
     {
@@ -141,4 +147,40 @@ fn add_served(
         all.push((no, *stop))?;
     }
     Ok(())
+}
+
+impl<I: FleetIndex + Drop> Board<I> {
+    /// Moves the clock to a moment, at most 2^40, in the units of the roads' weights: every stop that is reached by then is served, and
+    /// no vehicle is touched but those that reach one. A moment behind the clock changes nothing but the version. After an error nothing
+    /// has changed.
+    pub fn advance<L>(
+        &mut self,
+        alloc: Global,
+        now: u64,
+        steps: &mut Steps<L>,
+    ) -> Result<Advanced, NoMemory>
+        requires version { (board_of self.old).fleet.version < 2 ^ 62 }
+        requires moment { now ≤ latest_moment }
+        ensures ok { IfOk result (λ advanced.
+            Enters (board_of self.old) (entry.Advance now advanced) (board_of self.new)) }
+        ensures index { IsOk result → FitsOn (I.fits self.old.fleet.index)
+            (I.fits self.new.fleet.index) (board_of self.old) (board_of self.new) }
+        ensures err { OnErr result (self.new ≡ self.old) }
+        ensures steps { steps.old.0 ≤ steps.new.0 }
+        ensures asks { steps.new.1 ≡ steps.old.1 }
+    {
+        if now < self.fleet.clock {
+            self.fleet.version += 1;
+            return Ok(Advanced::Back {
+                clock: self.fleet.clock,
+            });
+        }
+        let moved = self.fleet.moved(alloc, &self.arrivals, now, steps)?;
+        renew(&mut self.arrivals, &moved.cars, self.fleet.params(), now);
+        self.fleet.cars = moved.cars;
+        self.fleet.index = moved.index;
+        self.fleet.clock = now;
+        self.fleet.version += 1;
+        Ok(Advanced::Moved(moved.served))
+    }
 }

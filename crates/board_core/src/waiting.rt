@@ -1,8 +1,12 @@
-ghost use Rattle.std.specs.Prelude.{◌≡◌, ℕ, ◌+◌, ◌*◌, ◌<◌, ◌≤◌, ◌^◌, ◌∷◌, ◌++◌, [], None, Some, length, drop, IfOk, OnOk, OnErr, option_copied, option_map, slice_index, slice_set};
+ghost use Rattle.std.specs.Prelude.{◌≡◌, ℕ, ◌+◌, ◌*◌, ◌<◌, ◌≤◌, ◌^◌, ◌∷◌, ◌++◌, [], None, Some};
+ghost use Rattle.std.specs.Prelude.{length, drop, IfOk, OnOk, OnErr, option_copied, option_map};
+ghost use Rattle.std.specs.Prelude.{slice_index, slice_set};
 ghost use Rattle.std.specs.BTreeMap.{IsOrdered, Updates};
 ghost use Rattle.std.specs.Ordering.{nat_cmp};
 ghost use Rattle.board_core.specs.Arrivals.{leaves_of};
-ghost use Rattle.board_core.specs.Queues.{HasLeavesOf, IsLeast, IsLonger, IsSignTree, by_number, key_at, sign_of, signs_of, unheld_in, waiting_in, with_holder, without};
+ghost use Rattle.board_core.specs.Queues.{HasLeavesOf, IsLeast, IsLonger, IsSignTree, by_number};
+ghost use Rattle.board_core.specs.Queues.{key_at, sign_of, signs_of, unheld_in, waiting_in};
+ghost use Rattle.board_core.specs.Queues.{with_holder, without};
 
 use crate::arrivals::put_leaf;
 use ride_base::{NoMemory, RequestNo};
@@ -153,7 +157,8 @@ impl Model for Queue {
 
     ghost view = { λ q. in_order q.order.entries q.kept.slots };
 
-    ghost invariant = { λ q. IsQueue q.kept.slots q.order.entries q.numbers.entries q.unheld q.next };
+    ghost invariant = { λ q.
+        IsQueue q.kept.slots q.order.entries q.numbers.entries q.unheld q.next };
 }
 
 impl Queue {

@@ -18,7 +18,7 @@ use Rattle.board_core.specs.Boards.{Board, answer_of}
 use Rattle.board_core.specs.Changes.{IsGraphOf}
 use Rattle.board_core.specs.FleetViews.{cars_of}
 use Rattle.board_core.specs.Steps.{cancel_refusal}
-use Rattle.board_core.proofs.Leaving.{IsLeaving, leaving, may_join, may_leave, leaves_least}
+use Rattle.board_core.proofs.IsLeaving.{IsLeaving, leaving, may_join, may_leave, leaves_least}
 use Rattle.board_core.proofs.board.Board.removal_of.Goals as goal
 
 pub stops_of-pickup-requires-clause-proper : goal.stops_of-pickup-requires-clause-proper

@@ -54,15 +54,15 @@ schedule-requires g c =
     (subst (λ v. MayApply (board_of v) c.args.no (IsAssigned a) c.args.direct) (sym c.self.view_is) c.requires.possible) (sym c.in-Some.ensures) in
     slice_get_within _ _ r.car r.stands
 
-pub inserted-requires-clause-within : goal.inserted-requires-clause-within
-inserted-requires-clause-within g c =
+pub inserted-requires-clause-insertion : goal.inserted-requires-clause-insertion
+inserted-requires-clause-insertion g c =
     let b : Board = record { nodes = c.self.inside.nodes; fleet = cars_of c.self.inside.fleet; closed = c.self.inside.closed; waiting = c.self.inside.waiting; answers = c.self.inside.answers.entries; cancelled = c.self.inside.cancelled.keys } in
     let w = c.in-Some.waiting.now in
     let a = c.args.assigned.now in
     let r : IsReady b w a = ready (g.I.FleetIndex.fits c.self.inside.fleet.index) b c.self.inside.arrivals c.args.no a c.args.direct w c.self.invariant
     (subst (λ v. MayApply (board_of v) c.args.no (IsAssigned a) c.args.direct) (sym c.self.view_is) c.requires.possible) (sym c.in-Some.ensures) in
     let s = c.schedule.ensures r.car r.stands in
-    subst (λ (p : Plan). a.offer.at.j ≤ length p.stops) (sym s) r.priced.parts.within
+    (r.priced.parts.ordered, subst (λ (p : Plan). a.offer.at.j ≤ length p.stops) (sym s) r.priced.parts.within)
 
 pub inserted-requires-clause-as_many : goal.inserted-requires-clause-as_many
 inserted-requires-clause-as_many g c =
