@@ -1,4 +1,15 @@
 pub mod TextEntries
 pub mod Groups
 pub mod Printable
+pub mod Certificates
+pub mod TextGroups
+pub mod Forms
+pub mod LineParts
+pub mod LineRuns
+pub mod LineHeads
+pub mod Journals
+pub mod GroupSamples
 pub mod Samples
+pub mod Drafts
+pub mod DraftTexts
+pub mod Laws

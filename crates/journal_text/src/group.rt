@@ -103,7 +103,8 @@ fn text_of(reason: Reason) -> &'static str
 
 fn push_cancelled(out: &mut Vec<u8>, no: RequestNo, cancelled: &Cancelled) -> Result<(), NoMemory>
     requires { IsPrintable (entry.Cancel no cancelled.now) }
-    ensures { OnOk result (out.new.items ≡ out.old.items ++ cancelled_lines no.0 (text_cancelled cancelled.now)) }
+    ensures { OnOk result
+        (out.new.items ≡ out.old.items ++ cancelled_lines no.0 (text_cancelled cancelled.now)) }
 {
     let removal = match cancelled {
         Cancelled::Removed(removal) => removal,
@@ -148,7 +149,8 @@ fn push_joined(
 ) -> Result<(), NoMemory>
     requires from_first { 1 ≤ pickup }
     requires order { pickup < dropoff }
-    ensures { OnOk result (out.new.items ≡ out.old.items ++ walks_lines (joined_legs pickup dropoff) (nodes_of walks.now)) }
+    ensures { OnOk result (out.new.items
+        ≡ out.old.items ++ walks_lines (joined_legs pickup dropoff) (nodes_of walks.now)) }
 {
     let before = (pickup - 1) as u128;
     if dropoff == pickup + 1 {
@@ -185,7 +187,8 @@ fn push_decision(out: &mut Vec<u8>, no: RequestNo, decision: &Decision) -> Resul
 /// Adds the walks of the legs that an insertion changes, with the numbers of these legs in the new list.
 fn push_changed(out: &mut Vec<u8>, at: Insertion, walks: &[Walk]) -> Result<(), NoMemory>
     requires { at.i ≤ at.j }
-    ensures { OnOk result (out.new.items ≡ out.old.items ++ walks_lines (changed_legs at.i (at.j - at.i)) (nodes_of walks.now)) }
+    ensures { OnOk result (out.new.items ≡ out.old.items
+        ++ walks_lines (changed_legs at.i (at.j - at.i)) (nodes_of walks.now)) }
 {
     let i = at.i as u128;
     let j = at.j as u128;

@@ -43,7 +43,8 @@ pub(crate) fn push_line(out: &mut Vec<u8>, letter: u8, numbers: &[u64]) -> Resul
 /// Adds walks, each with the number of its leg, as far as both lists go. A leg's number has 128 bits, since it may be past the
 /// greatest place of a list.
 pub(crate) fn push_walks(out: &mut Vec<u8>, legs: &[u128], walks: &[Walk]) -> Result<(), NoMemory>
-    ensures { OnOk result (out.new.items ≡ out.old.items ++ walks_lines legs.now (nodes_of walks.now)) }
+    ensures { OnOk result
+        (out.new.items ≡ out.old.items ++ walks_lines legs.now (nodes_of walks.now)) }
 {
     for (leg, walk) in legs.iter().zip(walks) {
         push_walk(out, *leg, walk.nodes())?;
