@@ -1,4 +1,5 @@
 use Rattle.std.proofs.Common.{◌≡◌, ◌∙◌, ◌≤◌, ◌==◌, ◌||◌, ◌⊎◌, inl, inr, ℕ, Bool, cond, true, false, refl, sym, ap, ap₂, List, [], ◌∷◌, ◌++◌, map, length, Option, Some, None, option_map, codes, arith}
+use Rattle.std.proofs.lemmas.Bool.{false≢true}
 use Rattle.std.proofs.lemmas.List.Folds.{list_any-append}
 use Rattle.std.specs.Prelude.{String, slice_get}
 use Rattle.std.specs.String.{string_bytes}
@@ -8,7 +9,7 @@ use Rattle.clap.specs.Simple.{built}
 use Rattle.clap.specs.Values.{bool_text}
 use Rattle.stop_schedule.specs.Rates.{Rates}
 use Rattle.ride_base.specs.Digits.{number_of}
-use Rattle.command_words.specs.Commands.{rates_from, Audit, Form, Live, Run, RunOptions, Said, Walk, Word, and_then, audit_command, audit_form, begins_with_dash, form_of, gen_command, gen_form, is_one_of, largest_node, live_command, live_form, number_or, optional_within, parameters, run_command, run_form, run_options, value_in, walk_command, walk_form}
+use Rattle.command_words.specs.Commands.{rates_from, Audit, Form, Live, Run, RunOptions, Said, Walk, Word, and_then, audit_command, audit_form, begins_with_dash, form_of, HasNoMode, modes, gen_command, gen_form, is_one_of, largest_node, live_command, live_form, number_or, optional_within, parameters, run_command, run_form, run_options, value_in, walk_command, walk_form}
 use Rattle.command_words.specs.Reading.{app_for, audit_by, audit_in, gen_by, gen_in, live_by, live_in, run_by, run_in, three_by, walk_by, walk_in}
 use Rattle.command_words.proofs.Rules.{same_word}
 use Rattle.command_words.proofs.UsesSaid.{in_places}
@@ -335,3 +336,11 @@ no_mode (w ∷ words) mode text first is a b c d e =
     let gen : bytes_eq (string_bytes w) (codes "gen") ≡ false = unlike _ _ (λ h. d (here ∙ h)) in
     let live : bytes_eq (string_bytes w) (codes "live") ≡ false = unlike _ _ (λ h. e (here ∙ h)) in
     rw (run, audit, walk, gen, live) refl
+
+-- a first word that begins a form
+pub has_mode : {Z : Type 0} (words : List (String Z)) (mode : String Z) (text begins : Word) → Some mode ≡ slice_get words 0 → text ≡ string_bytes mode → text ≡ begins → is_one_of modes begins ≡ true
+    → HasNoMode (map string_bytes words) → ⊥
+has_mode [] mode text begins first is same known none = cc
+has_mode (w ∷ words) mode text begins first is same known none =
+    let here : mode ≡ w = cc in
+    absurd (false≢true (sym none ∙ ap (is_one_of modes) (sym (ap string_bytes here) ∙ sym is ∙ same) ∙ known))

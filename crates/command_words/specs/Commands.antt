@@ -1,4 +1,4 @@
-use Rattle.std.specs.Prelude.{ℕ, ◌*◌, ◌==◌, ◌&&◌, nat_le, not, Bool, true, false, cond, List, [], ◌∷◌, ◌++◌, map, length, Option, Some, None, option_map, codes}
+use Rattle.std.specs.Prelude.{◌≡◌, ℕ, ◌*◌, ◌==◌, ◌&&◌, nat_le, not, Bool, true, false, cond, List, [], ◌∷◌, ◌++◌, map, length, Option, Some, None, option_map, codes}
 use Rattle.std.specs.List.{list_any, before_first, after_first}
 use Rattle.std.specs.Str.{bytes_eq}
 use Rattle.ride_base.specs.Digits.{number_of}
@@ -221,6 +221,15 @@ gen_form names = None
 abbrev pub live_form : List Word → Option Rates → Option ℕ → Option Form
 live_form (g ∷ f ∷ s ∷ []) rates workers = and_then rates (λ rates. option_map (Live g f s rates) workers)
 live_form names rates workers = None
+
+-- the words that begin a form
+abbrev pub modes : List Word
+modes = codes "run" ∷ codes "audit" ∷ codes "walk" ∷ codes "gen" ∷ codes "live" ∷ []
+
+-- there is no word, or the first one begins no form
+abbrev pub HasNoMode : List Word → Type 0
+HasNoMode [] = Unit {0}
+HasNoMode (mode ∷ words) = is_one_of modes mode ≡ false
 
 -- the form after a mode
 abbrev pub form_after : Word → List Word → Option Form

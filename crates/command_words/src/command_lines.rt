@@ -1,7 +1,7 @@
-ghost use Rattle.std.specs.Prelude.{◌≡◌, Bool, IfOk, IfSome, None, codes, drop, map};
+ghost use Rattle.std.specs.Prelude.{◌≡◌, Bool, IfOk, IfSome, None, Ok, codes, drop, map};
 ghost use Rattle.std.specs.String.{string_bytes};
 ghost use Rattle.clap.specs.Words.{first_value, found_of};
-ghost use Rattle.command_words.specs.Commands.{form_of};
+ghost use Rattle.command_words.specs.Commands.{HasNoMode, form_of};
 ghost use Rattle.command_words.specs.Reading.{HasFlag, audit_by, audit_in, gen_by, gen_in, live_by, live_in, run_by, run_in, walk_by, walk_in};
 ghost use Rattle.command_words.specs.Shown.{Shows};
 
@@ -11,10 +11,11 @@ use clap::ArgMatches;
 use ride_base::{NoMemory, number};
 use std::alloc::Global;
 
-/// What the words of a command line ask for, without the program's own name. None where they are no command line. After an error
-/// nothing is left but the words, and it says nothing of them.
+/// What the words of a command line ask for, without the program's own name. None where they are no command line, for which no memory
+/// is wanted where the first word begins no form. After an error nothing is left but the words, and it says nothing of them.
 pub fn form<'a>(alloc: Global, words: &'a [String]) -> Result<Option<Form<'a>>, NoMemory>
-    ensures { IfOk result (Shows (form_of (map string_bytes words.entry.now))) }
+    ensures shows { IfOk result (Shows (form_of (map string_bytes words.entry.now))) }
+    ensures none { HasNoMode (map string_bytes words.entry.now) → result ≡ Ok None }
 {
     let Some(mode) = words.first() else {
         return Ok(None);

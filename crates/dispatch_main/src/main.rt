@@ -1,12 +1,14 @@
 // The dispatcher: reads its words, answers from files to the standard output, and ends with the run's exit code.
 #![tactic(auto)]
 
+ghost use Rattle.std.specs.Prelude.{◌≡◌, ◌≢◌};
+
 use dispatch_top::{Status, run};
 use ride_base::{HostShelf, HostSink};
 use road_graph::Steps;
 use std::alloc::Global;
 use std::fs::Files;
-use std::io::Print;
+use std::io::{ErrorKind, Print};
 use std::process::ExitCode;
 use std::thread::Threads;
 use std::{env, io};
@@ -14,7 +16,7 @@ use std::{env, io};
 fn main(rt: HostRuntime) -> ExitCode {
     let status = match words(&rt) {
         Ok(words) => answer(&rt, rt.alloc(), words.as_slice()),
-        Err(error) => refused(&error),
+        Err(error) => refused(error.kind()),
     };
     // A line that can't be told doesn't change how the run ended.
     let _told = tell(&rt, status);
@@ -31,9 +33,12 @@ fn words(rt: &HostRuntime) -> io::Result<Vec<String>> {
 }
 
 /// The status where there are no words: those that aren't UTF-8 are none of the forms, and else memory was wanted.
-fn refused(error: &io::Error) -> Status {
-    match error.kind() {
-        io::ErrorKind::InvalidData => Status::Usage,
+fn refused(kind: ErrorKind) -> Status
+    ensures unreadable { kind ≡ ErrorKind.InvalidData → result ≡ Status.Usage }
+    ensures other { kind ≢ ErrorKind.InvalidData → result ≡ Status.NoMemory }
+{
+    match kind {
+        ErrorKind::InvalidData => Status::Usage,
         _ => Status::NoMemory,
     }
 }

@@ -1,4 +1,4 @@
-use Rattle.std.specs.Prelude.{◌≡◌, ℕ, ◌+◌, ◌<◌, ◌≤◌, ◌^◌, ◌++◌, List, Option, Some, None}
+use Rattle.std.specs.Prelude.{◌≡◌, ℕ, ◌+◌, ◌*◌, ◌<◌, ◌≤◌, ◌^◌, ◌++◌, List, length, Option, Some, None}
 use Rattle.ride_base.specs.declared.numbers.RequestNo.{RequestNo}
 use Rattle.road_graph.specs.Roads.{Roads}
 use Rattle.stop_schedule.specs.declared.request.Request.{Request}
@@ -41,7 +41,7 @@ pub record AreAnswered (g : Roads) (old : Board) (events : List Event) (new : Bo
   pub early : HasEarlyMoves entries
   pub rendered : text ≡ journal_of entries
   pub nodes : new.nodes ≡ old.nodes
-  pub few : new.fleet.version ≤ old.fleet.version + 2
+  pub few : new.fleet.version ≤ old.fleet.version + 2 * length events
 
 -- the answer that an entry tells
 abbrev pub answer_told : Entry → Option Decision

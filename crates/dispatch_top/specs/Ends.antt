@@ -1,8 +1,8 @@
 use Rattle.std.specs.Prelude.{◌≡◌, ◌⊎◌, ℕ, Bool, true, false, List, length, Option, Some, None}
 use Rattle.command_words.specs.Commands.{Form, Run, Audit, Walk, Gen, Live}
+use Rattle.ride_base.specs.Calls.{Call, Says, Began}
 use Rattle.dispatch_top.specs.declared.status.Status.{Status}
 use Rattle.dispatch_top.specs.declared.status.Status.TheVariants.{Usage, NotYet, NoMemory}
-use Rattle.dispatch_top.specs.Calls.{Call, Says, Began}
 use Rattle.dispatch_top.specs.Forms.{is_answered, names_of, stages_of}
 use Rattle.dispatch_top.specs.Reading.{Read, AreRead, EndsReading}
 use Rattle.dispatch_top.specs.RunMode.{EndsRun}
@@ -26,7 +26,7 @@ HasBegun names stages status c = Began names (length names) c
 -- all texts that are read whole were read, and then the run ended so
 pub record EndsBehind (form : Form) (status : Status) (c : Call) : Type 0 where
   pub read : Read
-  pub are_read : AreRead (Says c) read (stages_of form)
+  pub are_read : AreRead (Says c.old.shelf) read (stages_of form)
   pub began : HasBegun (names_of form) (length (stages_of form)) status c
   pub ends : EndsMode form read status c
 

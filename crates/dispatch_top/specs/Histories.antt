@@ -24,26 +24,34 @@ pub record IsHistoryOf (roads : Roads) (rates : Rates) (vehicles : List Vehicle)
   pub kept : KeepsPromises roads (opening_board roads.nodes rates vehicles) history
   pub rendered : printed ≡ journal_of history
 
--- These events were answered, of which so much is so, and so much of the lines of their history was taken.
-pub record AreAnsweredAs (roads : Roads) (rates : Rates) (vehicles : List Vehicle) (AreAsked : List Event → Type 0) (Taken : List ℕ → Type 0) : Type 0 where
+-- what the text of a stream, where it is told, says
+abbrev pub Telling : Type 1
+Telling = (List ℕ → Type 0) → Type 0
+
+-- what was answered and printed
+abbrev pub Account : Type 1
+Account = List Event → List ℕ → Type 0
+
+-- There is an account of events, of which so much is so, and so much of its lines was taken.
+pub record AreAnsweredAs (IsAccount : Account) (AreAsked : List Event → Type 0) (Taken : List ℕ → Type 0) : Type 0 where
   pub events : List Event
   pub printed : List ℕ
   pub said : AreAsked events
-  pub is_history : IsHistoryOf roads rates vehicles events printed
+  pub account : IsAccount events printed
   pub took : Taken printed
 
--- All events of a stream up to this end. `Says` tells a fact of the stream's text.
-abbrev pub EndsAt : Roads → Rates → List Vehicle → StreamEnd → (Says : (List ℕ → Type 0) → Type 0) → (Taken : List ℕ → Type 0) → Type 0
-EndsAt roads rates vehicles end Says Taken = AreAnsweredAs roads rates vehicles (λ events. Says (λ text. events_of text ≡ record { events = events; ends = end })) Taken
+-- all events of a stream up to this end
+abbrev pub EndsAt : Account → StreamEnd → (Says : Telling) → (Taken : List ℕ → Type 0) → Type 0
+EndsAt IsAccount end Says Taken = AreAnsweredAs IsAccount (λ events. Says (λ text. events_of text ≡ record { events = events; ends = end })) Taken
 
 -- the first events of a stream
-abbrev pub EndsEarly : Roads → Rates → List Vehicle → (Says : (List ℕ → Type 0) → Type 0) → (Taken : List ℕ → Type 0) → Type 0
-EndsEarly roads rates vehicles Says Taken = AreAnsweredAs roads rates vehicles (λ events. Says (λ text. (more : List Event) × ((events_of text).events ≡ events ++ more))) Taken
+abbrev pub EndsEarly : Account → (Says : Telling) → (Taken : List ℕ → Type 0) → Type 0
+EndsEarly IsAccount Says Taken = AreAnsweredAs IsAccount (λ events. Says (λ text. (more : List Event) × ((events_of text).events ≡ events ++ more))) Taken
 
 -- the events of exactly those lines that a line end ends among the bytes that were read, where so much is left
 pub record AreEventsRead (text : List ℕ) (left : Option (List ℕ)) (events : List Event) : Type 0 where
   pub read_to : IsReadTo largest_text text left
   pub are : events_from 1 (map Whole (ended_lines read_to.read)) ≡ record { events = events; ends = AtEnd }
 
-abbrev pub EndsUnread : Roads → Rates → List Vehicle → (Says : (List ℕ → Type 0) → Type 0) → (left : Option (List ℕ)) → (Taken : List ℕ → Type 0) → Type 0
-EndsUnread roads rates vehicles Says left Taken = AreAnsweredAs roads rates vehicles (λ events. Says (λ text. AreEventsRead text left events)) Taken
+abbrev pub EndsUnread : Account → (Says : Telling) → (left : Option (List ℕ)) → (Taken : List ℕ → Type 0) → Type 0
+EndsUnread IsAccount Says left Taken = AreAnsweredAs IsAccount (λ events. Says (λ text. AreEventsRead text left events)) Taken

@@ -1,4 +1,5 @@
-use Rattle.std.specs.Prelude.{◌≡◌, ℕ, ◌+◌, ◌++◌, ◌⊎◌, List, [], ◌∷◌, length, Option, Result, Ok, Err}
+use Rattle.std.specs.Prelude.{◌≡◌, ℕ, ◌+◌, ◌++◌, ◌⊎◌, true, List, [], ◌∷◌, length, Option, Result, Ok, Err}
+use Rattle.ride_base.specs.Calls.{Call, Saying, Says, Began, TookNothing}
 use Rattle.road_graph.specs.Graphs.{IsGraph}
 use Rattle.road_graph.specs.Roads.{Roads}
 use Rattle.dimacs_reader.specs.declared.faults.GraphFault.{GraphFault}
@@ -12,7 +13,6 @@ use Rattle.input_tables.specs.Fleets.{fleet_of}
 use Rattle.input_tables.specs.Refusals.{IsReadWithin, IsRefusal as IsFleetRefusal}
 use Rattle.dispatch_top.specs.declared.status.Status.{Status}
 use Rattle.dispatch_top.specs.declared.status.Status.TheVariants as status
-use Rattle.dispatch_top.specs.Calls.{Call, Says, Began, TookNothing}
 use Rattle.dispatch_top.specs.Forms.{Stage, GraphText, FleetText}
 
 -- The texts that are read whole, in their order, whatever is answered behind them: what they say, and how a run ends at one of them.
@@ -23,11 +23,11 @@ pub record Read : Type 0 where
   pub vehicles : List Vehicle
 
 -- what one text says
-abbrev pub IsReadAs : (List ℕ → (List ℕ → Type 0) → Type 0) → Read → Stage → Type 0
+abbrev pub IsReadAs : Saying → Read → Stage → Type 0
 IsReadAs Of read (GraphText name) = IsGraph read.roads × Of name (λ text. graph_of text ≡ Ok read.roads)
 IsReadAs Of read (FleetText name) = AreVehicles read.roads.nodes read.vehicles × Of name (λ text. fleet_of read.roads.nodes text ≡ Ok read.vehicles)
 
-abbrev pub AreRead : (List ℕ → (List ℕ → Type 0) → Type 0) → Read → List Stage → Type 0
+abbrev pub AreRead : Saying → Read → List Stage → Type 0
 AreRead Of read [] = Unit {0}
 AreRead Of read (stage ∷ stages) = IsReadAs Of read stage × AreRead Of read stages
 
@@ -48,13 +48,13 @@ abbrev pub IsBadAtRow : Result (List Vehicle) FleetFault → (row : ℕ) → Typ
 IsBadAtRow said row = (fault : FleetFault) × (said ≡ Err fault) × IsFleetRefusal fault × (row_of fault ≡ row)
 
 -- the text is refused, and the status tells where
-abbrev pub IsRefusedAs : (List ℕ → (List ℕ → Type 0) → Type 0) → Read → Stage → Status → Type 0
+abbrev pub IsRefusedAs : Saying → Read → Stage → Status → Type 0
 IsRefusedAs Of read (GraphText name) (status.GraphText line) = Of name (λ text. IsBadAt (graph_of text) line)
 IsRefusedAs Of read (FleetText name) (status.FleetText row) = Of name (λ text. IsBadAtRow (fleet_of read.roads.nodes text) row)
 IsRefusedAs Of read stage status = ⊥
 
 -- what was read of the text doesn't show that it is bad
-abbrev pub IsOpen : (List ℕ → (List ℕ → Type 0) → Type 0) → Read → Stage → (left : Option (List ℕ)) → Type 0
+abbrev pub IsOpen : Saying → Read → Stage → (left : Option (List ℕ)) → Type 0
 IsOpen Of read (GraphText name) left = Of name (λ text. IsUndecided (graph_of text) text left)
 IsOpen Of read (FleetText name) left = Of name (λ text. IsReadWithin text left)
 
@@ -63,7 +63,7 @@ pub record StopsAt (names : List (List ℕ)) (stages : List Stage) (read : Read)
   pub before : List Stage
   pub after : List Stage
   pub stands : stages ≡ before ++ stage ∷ after
-  pub are_read : AreRead (Says c) read before
+  pub are_read : AreRead (Says c.old.shelf) read before
   pub began : Began names (begun (length before)) c
   pub took : TookNothing c
 
@@ -75,11 +75,11 @@ abbrev pub without_its_name : ℕ → ℕ
 without_its_name before = before
 
 abbrev pub Refuses : List (List ℕ) → List Stage → Status → Call → Type 0
-Refuses names stages status c = (read : Read) × (stage : Stage) × StopsAt names stages read stage with_its_name c × IsRefusedAs (Says c) read stage status
+Refuses names stages status c = (read : Read) × (stage : Stage) × StopsAt names stages read stage with_its_name c × IsRefusedAs (Says c.old.shelf) read stage status
 
 abbrev pub FailsReading : List (List ℕ) → List Stage → Call → Type 0
 FailsReading names stages c = (read : Read) × (stage : Stage) × StopsAt names stages read stage with_its_name c
-    × (c.shelf'.IsBegun → IsOpen (Says c) read stage c.shelf'.left)
+    × (c.new.shelf.begun ≡ true → IsOpen (Says c.old.shelf) read stage c.new.shelf.left)
 
 -- memory was wanted for one of the texts, or for its name
 abbrev pub LacksMemory : List (List ℕ) → List Stage → Call → Type 0

@@ -15,7 +15,7 @@ ghost use Rattle.dispatch_top.specs.Answering.{answer_told, as_waiting};
 
 use crate::walker::GraphWalker;
 use board_core::{Board, Entry, Fleet, Submitted, answers_are_possible};
-use insertion_cost::{Decision, PlainPricer};
+use insertion_cost::{Decision, PlainAnswers};
 use journal_text::render;
 use ride_base::{NoMemory, RequestNo};
 use road_graph::{Graph, Steps};
@@ -25,17 +25,18 @@ use stop_schedule::{NoIndex, Request};
 /// The answer of a fleet to a request, and the length of the direct way, which is 0 where nobody takes it.
 fn decide<L>(
     alloc: Global,
-    graph: &Graph,
+    answers: &mut PlainAnswers<'_>,
     fleet: &Fleet<NoIndex>,
     request: &Request,
     steps: &mut Steps<L>,
 ) -> Result<(Decision, u64), NoMemory>
-    requires good { IsGoodFleet graph.now (cars_of fleet.now) }
-    requires request { IsRequestIn graph.now request.now }
-    ensures { IfOk result
-        (λ both. IsAnswerOf graph.now (cars_of fleet.now) request.now both.0 both.1) }
+    requires good { IsGoodFleet answers.old.graph.now (cars_of fleet.now) }
+    requires request { IsRequestIn answers.old.graph.now request.now }
+    ensures same { answers.new.graph.now ≡ answers.old.graph.now }
+    ensures answer { IfOk result (λ both. IsAnswerOf answers.old.graph.now
+        (cars_of fleet.now) request.now both.0 both.1) }
 {
-    PlainPricer::new(graph).answer(alloc, fleet, request, steps)
+    answers.answer(alloc, fleet, request, steps)
 }
 
 /// Adds the lines of a request's answer to a text, and hands the answer back.
@@ -69,23 +70,26 @@ fn answer_in(entry: Entry) -> Option<Decision>
 fn answer_waiting<L>(
     alloc: Global,
     graph: &Graph,
+    answers: &mut PlainAnswers<'_>,
     board: &mut Board<NoIndex>,
     request: &Request,
     text: &mut Vec<u8>,
     steps: &mut Steps<L>,
 ) -> Result<(), NoMemory>
+    requires prices { answers.old.graph.now ≡ graph.now }
     requires version { (board_of board.old).fleet.version < 2 ^ 62 }
     requires nodes { (board_of board.old).nodes ≡ graph.now.nodes }
     requires good { IsGoodFleet graph.now (board_of board.old).fleet }
     requires request { IsRequestIn graph.now request.now }
     requires waits { waiting_of (board_of board.old) request.now.no
         ≡ Some (as_waiting request.now) }
-    ensures { OnOk result (IsCommitted graph.now (board_of board.old) request.now.no
+    ensures same { answers.new.graph.now ≡ answers.old.graph.now }
+    ensures committed { OnOk result (IsCommitted graph.now (board_of board.old) request.now.no
         (board_of board.new) text.old.items text.new.items) }
 {
     answers_are_possible();
     graph.nodes();
-    let (decision, direct) = decide(alloc, graph, board.fleet(), request, steps)?;
+    let (decision, direct) = decide(alloc, answers, board.fleet(), request, steps)?;
     let decision = tell_answer(alloc, request.no, decision, text)?;
     match board.apply(alloc, request.no, decision, direct, steps) {
         Ok(()) => Ok(()),
@@ -98,21 +102,24 @@ fn answer_waiting<L>(
 pub(crate) fn answer_ride<L>(
     alloc: Global,
     graph: &Graph,
+    answers: &mut PlainAnswers<'_>,
     board: &mut Board<NoIndex>,
     request: &Request,
     text: &mut Vec<u8>,
     steps: &mut Steps<L>,
 ) -> Result<(), NoMemory>
+    requires prices { answers.old.graph.now ≡ graph.now }
     requires ready { IsReady graph.now (board_of board.old) }
     requires empty { text.old.items ≡ [] }
-    ensures { OnOk result (AreAnswered graph.now (board_of board.old) (Ride request.now ∷ [])
-        (board_of board.new) text.new.items) }
+    ensures same { answers.new.graph.now ≡ answers.old.graph.now }
+    ensures answered { OnOk result (AreAnswered graph.now (board_of board.old)
+        (Ride request.now ∷ []) (board_of board.new) text.new.items) }
 {
     let submitted = board.submit(*request)?;
     render(alloc, &Entry::Submit(*request, submitted), text)?;
     match submitted {
         Submitted::Refused(_) => Ok(()),
-        Submitted::Accepted => answer_waiting(alloc, graph, board, request, text, steps),
+        Submitted::Accepted => answer_waiting(alloc, graph, answers, board, request, text, steps),
     }
 }
 

@@ -3,11 +3,13 @@
 #![tactic(auto)]
 
 mod answer;
-mod ending;
+mod answerer;
+mod dispatcher;
 mod reading;
 mod run_mode;
 mod runs;
 mod status;
+mod stops;
 mod stream;
 mod walk_mode;
 mod walker;

@@ -1,12 +1,11 @@
-ghost use Rattle.std.specs.Prelude.{◌≡◌, ◌≢◌, map, string_bytes};
-ghost use Rattle.ride_base.specs.Outside.{CountStays};
+ghost use Rattle.std.specs.Prelude.{◌≡◌, ◌≢◌, map, string_bytes, true};
+ghost use Rattle.command_words.specs.Commands.{HasNoMode};
+ghost use Rattle.ride_base.specs.Calls.{call_of};
+ghost use Rattle.ride_base.specs.Outside.{CountStays, SinkCountStays};
 ghost use Rattle.dispatch_top.specs.Behaving.{Behaves, IsComplete};
-ghost use Rattle.dispatch_top.specs.Calls.{seen_call};
-ghost use Rattle.dispatch_top.specs.Endings.{ended_as};
 ghost use Rattle.dispatch_top.specs.Ends.{Ends, IsUnanswered};
 ghost use Rattle.dispatch_top.specs.Forms.{run_asks};
 
-use crate::ending::Ending;
 use crate::run_mode::answer_run;
 use crate::status::Status;
 use crate::walk_mode::print_walk;
@@ -28,38 +27,26 @@ pub fn run<R: Threads + Sync, S: Shelf, K: Sink, L>(
     steps: &mut Steps<L>,
 ) -> Status
     ensures ends { Ends (run_asks (map string_bytes words.now)) result
-        (seen_call S.held S.left S.IsBegun S.names S.IsSure S.faults K.taken K.faults
-        shelf.old shelf.new sink.old sink.new) }
+        (call_of (S.seen shelf.old) (K.seen sink.old) (S.seen shelf.new) (K.seen sink.new)) }
     ensures complete { IsComplete (run_asks (map string_bytes words.now)) result
-        (seen_call S.held S.left S.IsBegun S.names S.IsSure S.faults K.taken K.faults
-        shelf.old shelf.new sink.old sink.new) }
+        (call_of (S.seen shelf.old) (K.seen sink.old) (S.seen shelf.new) (K.seen sink.new)) }
     ensures behaves { Behaves (run_asks (map string_bytes words.now)) result
-        (seen_call S.held S.left S.IsBegun S.names S.IsSure S.faults K.taken K.faults
-        shelf.old shelf.new sink.old sink.new) }
-    ensures quiet { S.IsQuiet → result ≢ Status.ReadFault
-        → CountStays S.faults shelf.old shelf.new }
-    ensures kept { K.IsQuiet → result ≢ Status.WriteFault
-        → CountStays K.faults sink.old sink.new }
+        (call_of (S.seen shelf.old) (K.seen sink.old) (S.seen shelf.new) (K.seen sink.new)) }
+    ensures quiet { (S.seen shelf.old).quiet ≡ true → result ≢ Status.ReadFault
+        → CountStays (S.seen shelf.old) (S.seen shelf.new) }
+    ensures kept { (K.seen sink.old).quiet ≡ true → result ≢ Status.WriteFault
+        → SinkCountStays (K.seen sink.old) (K.seen sink.new) }
     ensures untouched { IsUnanswered (run_asks (map string_bytes words.now))
         → (shelf.new ≡ shelf.old) × (sink.new ≡ sink.old) }
+    ensures usage { HasNoMode (map string_bytes words.now) → result ≡ Status.Usage }
 {
     match read_words(alloc, words) {
-        Ok(Task::Run(asked)) => status(answer_run(alloc, &asked, shelf, sink, steps)),
+        Ok(Task::Run(asked)) => answer_run(alloc, &asked, shelf, sink, steps),
         Ok(Task::Walk { graph, from, to }) => {
-            status(print_walk(alloc, graph, from, to, shelf, sink, steps))
+            print_walk(alloc, graph, from, to, shelf, sink, steps)
         }
         Ok(Task::Later) => Status::NotYet,
         Ok(Task::Unknown) => Status::Usage,
         Err(_) => Status::NoMemory,
-    }
-}
-
-/// How a run ended.
-fn status(end: Result<(), Ending>) -> Status
-    ensures { result ≡ ended_as end }
-{
-    match end {
-        Ok(()) => Status::Done,
-        Err(ending) => ending.status(),
     }
 }

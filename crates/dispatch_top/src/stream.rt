@@ -1,138 +1,139 @@
-ghost use Rattle.std.specs.Prelude.{◌≡◌, ◌≢◌, true, false, ◌+◌, ◌≤◌, IfOk, IsOk, Err, None, IfSome};
-ghost use Rattle.ride_base.specs.Outside.{CountStays, OnlyRead, Rose};
-ghost use Rattle.ride_base.specs.Prefixes.{HasReadGiven};
+ghost use Rattle.std.specs.Prelude.{◌≡◌, ◌≢◌, ◌∷◌, [], true, false, IfOk, Ok, Err, None};
+ghost use Rattle.ride_base.specs.Calls.{call_of};
+ghost use Rattle.ride_base.specs.Outside.{AddsName, OnlyRead};
 ghost use Rattle.ride_base.specs.Told.{WhereTold};
-ghost use Rattle.stop_schedule.specs.Bounds.{AreVehicles};
-ghost use Rattle.input_tables.specs.Streams.{stream_line_of};
-ghost use Rattle.board_core.specs.BoardViews.{board_of};
-ghost use Rattle.dispatch_top.specs.Answering.{IsReady};
-ghost use Rattle.dispatch_top.specs.Streaming.{HistoriesAreGood, LineAnswer, Streamed};
-ghost use Rattle.dispatch_top.specs.Streaming.{LineCounts, LineGiven, LineGoesOn};
-ghost use Rattle.dispatch_top.specs.Streaming.{ending_of_line};
+ghost use Rattle.dispatch_top.specs.Answerers.{HasAsked, HasFew, HasGone, HoldsNothing, IsFresh};
+ghost use Rattle.dispatch_top.specs.Moves.{ReadsNames, ReadsOn, Writes};
+ghost use Rattle.dispatch_top.specs.Stops.{status_of_stream};
+ghost use Rattle.dispatch_top.specs.Streaming.{EndsStream, GivesNext, Streamed};
 
-use crate::answer::{answer_cancel, answer_move, answer_ride};
-use crate::ending::Ending;
-use board_core::{Board, fleets_stay_good, promises_are_kept};
-use input_tables::{StreamLine, stream_line};
-use ride_base::{LARGEST_TEXT, Line, LineFault, Lines, Shelf, Sink, write_whole};
-use road_graph::{Graph, Steps};
-use std::alloc::Global;
-use stop_schedule::{NoIndex, Params, Vehicle};
+use crate::answerer::Answerer;
+use crate::stops::{OutputStop, StreamExit};
+use input_tables::stream_line;
+use ride_base::{
+    BeginFault, LARGEST_TEXT, Line, LineFault, Lines, NoMemory, Shelf, Sink, write_whole,
+};
+use road_graph::Steps;
+use std::alloc::{AllocError, Global};
 
-/// Answers the lines of the text that is begun, one after another, from the vehicles at their starts on. The lines of an answer are
-/// written by one call, before the next line is read.
-pub(crate) fn answer_stream<S: Shelf, K: Sink, L>(
+/// Begins the text of a name, and answers its lines.
+pub(crate) fn answer_text<A: Answerer, S: Shelf, K: Sink, L>(
     alloc: Global,
-    graph: &Graph,
-    params: Params,
-    vehicles: &[Vehicle],
+    name: &str,
+    answerer: &mut A,
     shelf: &mut S,
     sink: &mut K,
     steps: &mut Steps<L>,
-) -> Result<(), Ending>
-    requires begun { S.IsBegun shelf.old }
-    requires vehicles { AreVehicles graph.now.nodes vehicles.now }
-    ensures streamed { Streamed graph.now params vehicles.now (WhereTold (S.left shelf.old)) result
-        (S.left shelf.new) (K.taken sink.old) (K.taken sink.new) }
-    ensures fault { result ≡ Err Ending.ReadFault → Rose (S.faults shelf.old) (S.faults shelf.new) }
-    ensures surely { S.IsSure shelf.old → result ≡ Err Ending.ReadFault → ⊥ }
-    ensures written { result ≡ Err Ending.WriteFault
-        → Rose (K.faults sink.old) (K.faults sink.new) }
-    ensures kept { K.IsQuiet → result ≢ Err Ending.WriteFault
-        → CountStays K.faults sink.old sink.new }
-    ensures quiet { S.IsQuiet → result ≢ Err Ending.ReadFault
-        → CountStays S.faults shelf.old shelf.new }
-    ensures counted { K.faults sink.old ≤ K.faults sink.new }
-    ensures shelf { OnlyRead S.IsBegun S.held S.names S.IsSure S.faults shelf.old shelf.new }
+) -> Result<StreamExit, OutputStop>
+    requires fresh { IsFresh A.Has A.held answerer.old }
+    ensures ends { EndsStream (HasGone A.Has answerer.old) name.now (status_of_stream result)
+        (call_of (S.seen shelf.old) (K.seen sink.old) (S.seen shelf.new) (K.seen sink.new)) }
+    ensures named { result ≢ Err OutputStop.NoMemory
+        → AddsName (S.seen shelf.old) name.now (S.seen shelf.new) }
+    ensures shelf { HoldsNothing A.held → ReadsNames (name.now ∷ [])
+        (result ≡ Ok StreamExit.AtFault) (S.seen shelf.old) (S.seen shelf.new) }
+    ensures sink { Writes (result ≡ Err OutputStop.WriteFault) (K.seen sink.old) (K.seen sink.new) }
 {
-    histories_are_good(graph);
-    let mut board = Board::opening(alloc, graph.nodes(), params, vehicles, NoIndex)?;
-    let mut lines = Lines::new(alloc, LARGEST_TEXT);
+    match shelf.begin(name) {
+        Ok(()) => answer_stream(alloc, answerer, shelf, sink, steps),
+        Err(BeginFault::Failed) => Ok(StreamExit::AtFault),
+        Err(BeginFault::NoMemory) => Err(OutputStop::NoMemory),
+    }
+}
+
+/// Answers the lines of the text that is begun, one after another, and then what the answerer holds back. The lines of an answer are
+/// written by one call, before the next line is read.
+fn answer_stream<A: Answerer, S: Shelf, K: Sink, L>(
+    alloc: Global,
+    answerer: &mut A,
+    shelf: &mut S,
+    sink: &mut K,
+    steps: &mut Steps<L>,
+) -> Result<StreamExit, OutputStop>
+    requires begun { (S.seen shelf.old).begun ≡ true }
+    requires fresh { IsFresh A.Has A.held answerer.old }
+    ensures streamed { Streamed (HasGone A.Has answerer.old) (HasGone A.Has answerer.old)
+        (WhereTold (S.seen shelf.old).left) result (S.seen shelf.new).left
+        (K.seen sink.old).taken (K.seen sink.new).taken }
+    ensures read { OnlyRead (S.seen shelf.old) (S.seen shelf.new) }
+    ensures shelf { HoldsNothing A.held
+        → ReadsOn (result ≡ Ok StreamExit.AtFault) (S.seen shelf.old) (S.seen shelf.new) }
+    ensures sink { Writes (result ≡ Err OutputStop.WriteFault) (K.seen sink.old) (K.seen sink.new) }
+{
     let mut text = Vec::new(alloc);
+    let exit = answer_lines(alloc, answerer, shelf, sink, &mut text, steps)?;
+    text.clear();
+    answerer.finish(alloc, &mut text, steps)?;
+    let last = text.as_slice();
+    if last.is_empty() {
+        return Ok(exit);
+    }
+    write_whole(sink, last)?;
+    Ok(exit)
+}
+
+/// Answers the lines of the text that is begun, one after another, as far as the answerer doesn't hold them back.
+fn answer_lines<A: Answerer, S: Shelf, K: Sink, L>(
+    alloc: Global,
+    answerer: &mut A,
+    shelf: &mut S,
+    sink: &mut K,
+    text: &mut Vec<u8>,
+    steps: &mut Steps<L>,
+) -> Result<StreamExit, OutputStop>
+    requires begun { (S.seen shelf.old).begun ≡ true }
+    requires fresh { IsFresh A.Has A.held answerer.old }
+    ensures streamed { Streamed (HasAsked A.Has A.held answerer.old answerer.new)
+        (HasGone A.Has answerer.old) (WhereTold (S.seen shelf.old).left) result
+        (S.seen shelf.new).left (K.seen sink.old).taken (K.seen sink.new).taken }
+    ensures few { IfOk result (λ exit. HasFew A.Has A.held answerer.new) }
+    ensures shelf { ReadsOn (result ≡ Ok StreamExit.AtFault) (S.seen shelf.old) (S.seen shelf.new) }
+    ensures sink { Writes (result ≡ Err OutputStop.WriteFault) (K.seen sink.old) (K.seen sink.new) }
+{
+    let mut lines = Lines::new(alloc, LARGEST_TEXT);
     'lines: loop {
-        let Some(line) = next_line(alloc, &mut lines, shelf)? else {
-            return Ok(());
-        };
-        answer_line(alloc, graph, &mut board, &line, &mut text, steps)?;
-        write_whole(sink, text.as_slice())?;
-        if !line.ended {
-            return Ok(());
+        match next_line(alloc, &mut lines, shelf)? {
+            Next::Exit(exit) => return Ok(exit),
+            Next::Line(line) => {
+                let Ok(said) = stream_line(&line) else {
+                    return Ok(StreamExit::AtBad { line: line.number });
+                };
+                text.clear();
+                answerer.answer(alloc, &said, text, steps)?;
+                write_whole(sink, text.as_slice())?;
+                if !line.ended {
+                    return Ok(StreamExit::AtEnd);
+                }
+            }
         }
     }
 }
 
-/// Every legal history over a graph keeps its promises and leaves a good fleet. It does nothing: the laws are its contract.
-fn histories_are_good(graph: &Graph)
-    ensures { HistoriesAreGood graph.now }
-{
-    graph.nodes();
-    promises_are_kept();
-    fleets_stay_good();
+/// A line of a stream, or how the lines end before it.
+#[derive(Drop)]
+enum Next {
+    Line(Line),
+    Exit(StreamExit),
 }
 
-/// The next line. None comes exactly at the end of the text.
-fn next_line<S: Shelf>(
-    alloc: Global,
-    lines: &mut Lines,
-    shelf: &mut S,
-) -> Result<Option<Line>, Ending>
-    requires begun { S.IsBegun shelf.old }
+/// The next line, or how the lines end before it.
+fn next_line<S: Shelf>(alloc: Global, lines: &mut Lines, shelf: &mut S) -> Result<Next, NoMemory>
+    requires begun { (S.seen shelf.old).begun ≡ true }
     requires unstopped { lines.old.stopped ≡ None }
     requires goes_on { lines.old.over ≡ false }
-    ensures given { LineGiven S.left lines.old shelf.old result lines.new shelf.new }
-    ensures counts { LineCounts lines.old result lines.new }
-    ensures goes { LineGoesOn S.left lines.old shelf.old result lines.new shelf.new }
-    ensures failed { result ≡ Err Ending.ReadFault
-        → HasReadGiven S.left lines.old shelf.old shelf.new }
-    ensures over { IfOk result (λ o. IfSome o (λ line. line.ended ≡ true
-        → lines.new.over ≡ false)) }
-    ensures unstopped { IsOk result → lines.new.stopped ≡ None }
-    ensures quiet { S.IsQuiet → result ≢ Err Ending.ReadFault
-        → CountStays S.faults shelf.old shelf.new }
-    ensures fault { result ≡ Err Ending.ReadFault → Rose (S.faults shelf.old) (S.faults shelf.new) }
-    ensures surely { S.IsSure shelf.old → result ≡ Err Ending.ReadFault → ⊥ }
-    ensures shelf { OnlyRead S.IsBegun S.held S.names S.IsSure S.faults shelf.old shelf.new }
+    ensures given { IfOk result (λ next. GivesNext lines.old (S.seen shelf.old) next
+        lines.new (S.seen shelf.new)) }
+    ensures shelf { ReadsOn (result ≡ Ok (Next.Exit StreamExit.AtFault))
+        (S.seen shelf.old) (S.seen shelf.new) }
 {
     let number = lines.given() + 1;
     match lines.next(alloc, shelf) {
-        Ok(line) => Ok(line),
-        Err(fault) => Err(ending_of(fault, number)),
+        Ok(Some(line)) => Ok(Next::Line(line)),
+        Ok(None) => Ok(Next::Exit(StreamExit::AtEnd)),
+        Err(LineFault::Fault) => Ok(Next::Exit(StreamExit::AtFault)),
+        Err(LineFault::Long | LineFault::Large) => {
+            Ok(Next::Exit(StreamExit::AtBad { line: number }))
+        }
+        Err(LineFault::NoMemory) => Err(AllocError),
     }
-}
-
-/// How a run ends at a fault of its stream before the line of this number.
-fn ending_of(fault: LineFault, line: u64) -> Ending
-    ensures { result ≡ ending_of_line line fault }
-{
-    match fault {
-        LineFault::Fault => Ending::ReadFault,
-        LineFault::Long | LineFault::Large => Ending::StreamText { line },
-        LineFault::NoMemory => Ending::NoMemory,
-    }
-}
-
-/// Answers what a line asks for. Its lines are all that the text then has.
-fn answer_line<L>(
-    alloc: Global,
-    graph: &Graph,
-    board: &mut Board<NoIndex>,
-    line: &Line,
-    text: &mut Vec<u8>,
-    steps: &mut Steps<L>,
-) -> Result<(), Ending>
-    requires ready { IsReady graph.now (board_of board.old) }
-    ensures answered { LineAnswer graph.now (board_of board.old) line.now.number
-        (stream_line_of line.now.bytes) result (board_of board.new) text.new.items }
-    ensures unread { result ≡ Err Ending.ReadFault → ⊥ }
-    ensures unwritten { result ≡ Err Ending.WriteFault → ⊥ }
-{
-    text.clear();
-    match stream_line(line) {
-        Ok(StreamLine::Ride(request)) => answer_ride(alloc, graph, board, &request, text, steps)?,
-        Ok(StreamLine::Move(now)) => answer_move(alloc, board, now, text, steps)?,
-        Ok(StreamLine::Cancel(no)) => answer_cancel(alloc, graph, board, no, text, steps)?,
-        Ok(StreamLine::Nothing) => {}
-        Err(_) => return Err(Ending::StreamText { line: line.number }),
-    }
-    Ok(())
 }

@@ -1,14 +1,14 @@
-ghost use Rattle.std.specs.Prelude.{◌≡◌, ◌≢◌, Err, IfOk, Some, true};
+ghost use Rattle.std.specs.Prelude.{◌≡◌, Err, IfOk, true};
 ghost use Rattle.command_words.specs.Commands.{Walk as WalkForm};
-ghost use Rattle.ride_base.specs.Outside.{CountStays};
-ghost use Rattle.dispatch_top.specs.Behaving.{Behaves};
-ghost use Rattle.dispatch_top.specs.Calls.{seen_call};
-ghost use Rattle.dispatch_top.specs.Endings.{ended_as};
+ghost use Rattle.ride_base.specs.Calls.{call_of};
 ghost use Rattle.dispatch_top.specs.Ends.{EndsForm};
-ghost use Rattle.dispatch_top.specs.WalkMode.{IsFound, walk_text};
+ghost use Rattle.dispatch_top.specs.Forms.{names_of};
+ghost use Rattle.dispatch_top.specs.Moves.{ReadsNames, Writes};
+ghost use Rattle.dispatch_top.specs.WalkMode.{IsFound, WritesWalk, walk_text};
 
-use crate::ending::Ending;
 use crate::reading::read_graph_of;
+use crate::status::Status;
+use crate::stops::{OutputStop, ReadingStop};
 use contraction::contract;
 use journal_text::render_way;
 use ride_base::{NoMemory, Shelf, Sink, write_whole};
@@ -24,20 +24,36 @@ pub(crate) fn print_walk<S: Shelf, K: Sink, L>(
     shelf: &mut S,
     sink: &mut K,
     steps: &mut Steps<L>,
-) -> Result<(), Ending>
-    ensures ends { EndsForm true (WalkForm name.now from to) (ended_as result)
-        (seen_call S.held S.left S.IsBegun S.names S.IsSure S.faults K.taken K.faults
-        shelf.old shelf.new sink.old sink.new) }
-    ensures behaves { Behaves (Some (WalkForm name.now from to)) (ended_as result)
-        (seen_call S.held S.left S.IsBegun S.names S.IsSure S.faults K.taken K.faults
-        shelf.old shelf.new sink.old sink.new) }
-    ensures quiet { S.IsQuiet → result ≢ Err Ending.ReadFault
-        → CountStays S.faults shelf.old shelf.new }
-    ensures kept { K.IsQuiet → result ≢ Err Ending.WriteFault
-        → CountStays K.faults sink.old sink.new }
+) -> Status
+    ensures ends { EndsForm true (WalkForm name.now from to) result
+        (call_of (S.seen shelf.old) (K.seen sink.old) (S.seen shelf.new) (K.seen sink.new)) }
+    ensures shelf { ReadsNames (names_of (WalkForm name.now from to)) (result ≡ Status.ReadFault)
+        (S.seen shelf.old) (S.seen shelf.new) }
+    ensures sink { Writes (result ≡ Status.WriteFault) (K.seen sink.old) (K.seen sink.new) }
 {
-    let graph = read_graph_of(alloc, name, shelf)?;
-    let walk = walk_between(alloc, &graph, NodeNo(from), NodeNo(to), steps)?;
+    match read_graph_of(alloc, name, shelf) {
+        Err(stop) => ReadingStop::Graph(stop).status(),
+        Ok(graph) => match write_walk(alloc, &graph, NodeNo(from), NodeNo(to), sink, steps) {
+            Ok(()) => Status::Done,
+            Err(stop) => stop.status(),
+        },
+    }
+}
+
+/// Writes the least walk between two nodes of a graph, or that there is none.
+fn write_walk<K: Sink, L>(
+    alloc: Global,
+    graph: &Graph,
+    from: NodeNo,
+    to: NodeNo,
+    sink: &mut K,
+    steps: &mut Steps<L>,
+) -> Result<(), OutputStop>
+    ensures walk { WritesWalk graph.now from to result
+        (K.seen sink.old).taken (K.seen sink.new).taken }
+    ensures sink { Writes (result ≡ Err OutputStop.WriteFault) (K.seen sink.old) (K.seen sink.new) }
+{
+    let walk = walk_between(alloc, graph, from, to, steps)?;
     let text = text_of(alloc, &walk)?;
     write_whole(sink, text.as_slice())?;
     Ok(())

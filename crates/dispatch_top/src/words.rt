@@ -1,4 +1,5 @@
-ghost use Rattle.std.specs.Prelude.{◌≡◌, IfOk, Some, map, string_bytes};
+ghost use Rattle.std.specs.Prelude.{◌≡◌, IfOk, Ok, Some, map, option_map, string_bytes};
+ghost use Rattle.command_words.specs.Commands.{HasNoMode};
 ghost use Rattle.command_words.specs.Shown.{shown_form};
 ghost use Rattle.dispatch_top.specs.Asking.{AsksFor};
 ghost use Rattle.dispatch_top.specs.Forms.{is_of_run, kept_where, run_asks};
@@ -32,12 +33,23 @@ pub(crate) enum Task<'a> {
 
 /// What the words ask for.
 pub(crate) fn read_words<'a>(alloc: Global, words: &'a [String]) -> Result<Task<'a>, NoMemory>
-    ensures { IfOk result (λ task. AsksFor task (run_asks (map string_bytes words.entry.now))) }
+    ensures asks { IfOk result
+        (λ task. AsksFor task (run_asks (map string_bytes words.entry.now))) }
+    ensures modes { HasNoMode (map string_bytes words.entry.now) → result ≡ Ok Task.Unknown }
 {
     match form(alloc, words) {
-        Ok(Some(form)) => Ok(task_of_form(&form)),
-        Ok(None) => Ok(Task::Unknown),
+        Ok(form) => Ok(task_of(&form)),
         Err(error) => Err(error),
+    }
+}
+
+/// What a command line asks for.
+fn task_of<'a>(form: &Option<Form<'a>>) -> Task<'a>
+    ensures { AsksFor result (kept_where is_of_run (option_map shown_form form.now)) }
+{
+    match form {
+        Some(form) => task_of_form(form),
+        None => Task::Unknown,
     }
 }
 

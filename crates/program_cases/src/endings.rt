@@ -365,3 +365,47 @@ fn other_forms_are_not_answered_yet(rt: HostRuntime) -> Result<(), Fail> {
     )?;
     words_end(&rt, rt.alloc(), &["gen", "7"], Status::NotYet)
 }
+
+/// Runs, and asserts that the status is not want of memory.
+fn wants_no_memory<R: Threads + Sync + Abort>(
+    rt: &R,
+    alloc: Global,
+    words: &[&str],
+    stream: &[u8],
+) -> Result<(), Fail> {
+    let mut shelf = shelf_of(alloc, [LINE, ONE, stream])?;
+    let mut sink = MemorySink::new(alloc, 1000)?;
+    let ended = status_of(rt, alloc, words, &mut shelf, &mut sink)?;
+    assert_ne!(rt; ended, Status::NoMemory);
+    Ok(())
+}
+
+#[test]
+fn an_unknown_mode_is_no_want_of_memory(rt: HostRuntime) -> Result<(), Fail> {
+    wants_no_memory(&rt, rt.alloc(), &[], TWO)?;
+    wants_no_memory(&rt, rt.alloc(), &["drive", "graph"], TWO)?;
+    wants_no_memory(&rt, rt.alloc(), &["", "graph", "fleet", "stream"], TWO)
+}
+
+#[test]
+fn an_unreadable_word_is_no_want_of_memory(rt: HostRuntime) -> Result<(), Fail> {
+    wants_no_memory(&rt, rt.alloc(), &["walk", "graph", "1", "x"], TWO)?;
+    wants_no_memory(
+        &rt,
+        rt.alloc(),
+        &["run", "graph", "fleet", "stream", "--stop=x"],
+        TWO,
+    )?;
+    wants_no_memory(
+        &rt,
+        rt.alloc(),
+        &["run", "graph", "fleet", "stream", "--stops=1"],
+        TWO,
+    )
+}
+
+#[test]
+fn nobody_is_no_want_of_memory(rt: HostRuntime) -> Result<(), Fail> {
+    wants_no_memory(&rt, rt.alloc(), WORDS, b"r 1 2 4 0 3\n")?;
+    wants_no_memory(&rt, rt.alloc(), WORDS, b"r 1 2 4 0 1\nr 2 2 4 0 3\n")
+}

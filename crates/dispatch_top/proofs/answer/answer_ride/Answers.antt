@@ -22,11 +22,11 @@ answer_waiting-requires-clause-request g c = request_in c.args.graph.now (board_
 pub answer_waiting-requires-clause-waits : goal.answer_waiting-requires-clause-waits
 answer_waiting-requires-clause-waits g c = waits c.args.graph.now (board_of c.args.board.now) (board_of c.submit.new.self) c.args.request.now (subst (λ (s : Submitted). Step c.args.graph.now (board_of c.args.board.now) (Submit c.args.request.now s) (board_of c.submit.new.self)) c.in-Accepted.is (c.in_ok-submitted.ensures.ok c.args.graph.now))
 
-pub returns-in-Refused : goal.returns-in-Refused
-returns-in-Refused g c = refused c.args.graph.now (board_of c.args.board.now) (board_of c.submit.new.self) c.args.request.now c.in-Refused.field-0 c.args.text.now.items c.render.new.out.items
+pub returns-in-Refused-clause-answered : goal.returns-in-Refused-clause-answered
+returns-in-Refused-clause-answered g c = refused c.args.graph.now (board_of c.args.board.now) (board_of c.submit.new.self) c.args.request.now c.in-Refused.field-0 c.args.text.now.items c.render.new.out.items
     (subst (λ (s : Submitted). Step c.args.graph.now (board_of c.args.board.now) (Submit c.args.request.now s) (board_of c.submit.new.self)) c.in-Refused.is (c.in_ok-submitted.ensures.ok c.args.graph.now)) c.requires.empty
     (subst (λ (s : Submitted). c.render.new.out.items ≡ c.args.text.now.items ++ group (Submit c.args.request.now s)) c.in-Refused.is c.in_ok-render.ensures.ok)
 
-pub returns-in-Accepted : goal.returns-in-Accepted
-returns-in-Accepted g c = on_ok c.answer_waiting.result (λ h. taken c.args.graph.now (board_of c.args.board.now) (board_of c.submit.new.self) (board_of c.answer_waiting.new.board) c.args.request.now c.args.text.now.items c.render.new.out.items c.answer_waiting.new.text.items (subst (λ (s : Submitted). Step c.args.graph.now (board_of c.args.board.now) (Submit c.args.request.now s) (board_of c.submit.new.self)) c.in-Accepted.is (c.in_ok-submitted.ensures.ok c.args.graph.now)) c.requires.empty
-    (subst (λ (s : Submitted). c.render.new.out.items ≡ c.args.text.now.items ++ group (Submit c.args.request.now s)) c.in-Accepted.is c.in_ok-render.ensures.ok) h) c.answer_waiting.ensures
+pub returns-in-Accepted-clause-answered : goal.returns-in-Accepted-clause-answered
+returns-in-Accepted-clause-answered g c = on_ok c.answer_waiting.result (λ h. taken c.args.graph.now (board_of c.args.board.now) (board_of c.submit.new.self) (board_of c.answer_waiting.new.board) c.args.request.now c.args.text.now.items c.render.new.out.items c.answer_waiting.new.text.items (subst (λ (s : Submitted). Step c.args.graph.now (board_of c.args.board.now) (Submit c.args.request.now s) (board_of c.submit.new.self)) c.in-Accepted.is (c.in_ok-submitted.ensures.ok c.args.graph.now)) c.requires.empty
+    (subst (λ (s : Submitted). c.render.new.out.items ≡ c.args.text.now.items ++ group (Submit c.args.request.now s)) c.in-Accepted.is c.in_ok-render.ensures.ok) h) c.answer_waiting.ensures.committed

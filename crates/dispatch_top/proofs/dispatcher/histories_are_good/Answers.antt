@@ -1,4 +1,4 @@
-use Rattle.dispatch_top.proofs.stream.histories_are_good.Goals as goal
+use Rattle.dispatch_top.proofs.dispatcher.histories_are_good.Goals as goal
 
 pub returns : goal.returns
 returns c = record {
