@@ -10,7 +10,7 @@ use crate::cities::line;
 use crate::plans::{at, front, promised};
 use crate::schedules::are_short;
 use insertion_cost::{
-    Behind, NodeWays, Offer, Priced, Spans, Standing, best_from, first_of_two, price,
+    Behind, NodeWays, Offer, Priced, Spans, PlacedVehicle, best_from, first_of_two, price,
 };
 use plain_search::least_walk;
 use ride_base::{RequestNo, VehicleNo};
@@ -634,7 +634,7 @@ fn best_at_once(
         return Err("no walk".into());
     };
     let ways = ways_along(alloc, graph, schedule, front, request, steps)?;
-    let vehicle = Standing {
+    let vehicle = PlacedVehicle {
         no: VehicleNo(1),
         place: 0,
     };

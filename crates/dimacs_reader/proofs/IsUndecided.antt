@@ -10,7 +10,7 @@ use Rattle.road_graph.specs.Roads.{Roads, is_node, node}
 use Rattle.road_graph.specs.Limits.{most_nodes, most_roads}
 use Rattle.dimacs_reader.specs.declared.faults.GraphFault.{GraphFault}
 use Rattle.dimacs_reader.specs.declared.faults.GraphFault.TheVariants.{Fault, Count, Node, Weight, Limit}
-use Rattle.dimacs_reader.specs.Forms.{GraphLine, Skipped, Problem, Arc, Formless, graph_line, PlaceLine, Header, Place, place_line}
+use Rattle.dimacs_reader.specs.Forms.{GraphForm, Skipped, Problem, Arc, Formless, graph_line, PlaceForm, Header, Place, place_line}
 use Rattle.dimacs_reader.specs.Graphs.{largest_weight, graph_in, first_line, roads_in, arc_line, road_and, map_ok, onto, over_nodes}
 use Rattle.dimacs_reader.specs.Places.{Placed, is_coordinate, stood_before, place_and, later_line, places_behind, opening_line, places_in}
 use Rattle.dimacs_reader.specs.Refusals.{IsReadBehind, IsReadFrom, IsUndecided, IsUnfinished, StandsBehind, refused_line}
@@ -38,7 +38,7 @@ late_map : {X Y : Type 0} (line : ℕ) (f : X → Y) (x : Result X GraphFault) �
 late_map line f (Ok x) h = tt
 late_map line f (Err error) h = h
 
-late_arc : (nodes said found line : ℕ) (g : GraphLine) (skipped another : Result (List Road) GraphFault) → IsLate line skipped → IsLate line another → IsLate line (arc_line nodes said found line g skipped another)
+late_arc : (nodes said found line : ℕ) (g : GraphForm) (skipped another : Result (List Road) GraphFault) → IsLate line skipped → IsLate line another → IsLate line (arc_line nodes said found line g skipped another)
 late_arc nodes said found line Skipped skipped another hs ha = hs
 late_arc nodes said found line (Problem n m) skipped another hs ha = same_line line
 late_arc nodes said found line (Arc from to weight) skipped another hs ha =
@@ -57,7 +57,7 @@ late_roads nodes said found line (Whole bytes ∷ more) =
 late_roads nodes said found line (TooLong ∷ more) = same_line line
 late_roads nodes said found line (TooLarge ∷ more) = same_line line
 
-late_first : (line : ℕ) (g : GraphLine) (skipped : Result Roads GraphFault) (behind : ℕ → ℕ → Result (List Road) GraphFault) → IsLate line skipped → ((n m : ℕ) → IsLate line (behind n m)) → IsLate line (first_line line g skipped behind)
+late_first : (line : ℕ) (g : GraphForm) (skipped : Result Roads GraphFault) (behind : ℕ → ℕ → Result (List Road) GraphFault) → IsLate line skipped → ((n m : ℕ) → IsLate line (behind n m)) → IsLate line (first_line line g skipped behind)
 late_first line Skipped skipped behind hs hb = hs
 late_first line (Problem n m) skipped behind hs hb =
     late_cond (nat_le n most_nodes && nat_le m most_roads) line (over_nodes n (behind n m)) (Err (Limit line)) (late_map line _ (behind n m) (hb n m)) (same_line line)
@@ -73,7 +73,7 @@ late_graph line (Whole bytes ∷ more) =
 late_graph line (TooLong ∷ more) = same_line line
 late_graph line (TooLarge ∷ more) = same_line line
 
-late_later : (nodes line : ℕ) (before : List Placed) (g : PlaceLine) (skipped : Result (List Placed) GraphFault) (another : Placed → Result (List Placed) GraphFault) → IsLate line skipped → ((p : Placed) → IsLate line (another p)) → IsLate line (later_line nodes line before g skipped another)
+late_later : (nodes line : ℕ) (before : List Placed) (g : PlaceForm) (skipped : Result (List Placed) GraphFault) (another : Placed → Result (List Placed) GraphFault) → IsLate line skipped → ((p : Placed) → IsLate line (another p)) → IsLate line (later_line nodes line before g skipped another)
 late_later nodes line before Skipped skipped another hp ha = hp
 late_later nodes line before (Header n) skipped another hp ha = same_line line
 late_later nodes line before (Place n x y) skipped another hp ha =
@@ -93,7 +93,7 @@ late_behind nodes line before (Whole bytes ∷ more) =
 late_behind nodes line before (TooLong ∷ more) = same_line line
 late_behind nodes line before (TooLarge ∷ more) = same_line line
 
-late_opening : (nodes line : ℕ) (g : PlaceLine) (skipped behind : Result (List Placed) GraphFault) → IsLate line skipped → IsLate line behind → IsLate line (opening_line nodes line g skipped behind)
+late_opening : (nodes line : ℕ) (g : PlaceForm) (skipped behind : Result (List Placed) GraphFault) → IsLate line skipped → IsLate line behind → IsLate line (opening_line nodes line g skipped behind)
 late_opening nodes line Skipped skipped behind hp hb = hp
 late_opening nodes line (Header n) skipped behind hp hb =
     late_cond (nat_le n most_nodes) line (cond (n == nodes) behind (Err (Count line n nodes))) (Err (Limit line))

@@ -13,7 +13,7 @@ use Rattle.road_graph.specs.Limits.{most_nodes, most_roads}
 use Rattle.dimacs_reader.specs.declared.faults.GraphFault.{GraphFault}
 use Rattle.dimacs_reader.specs.declared.faults.GraphFault.TheVariants.{Count, Node, Weight}
 use Rattle.dimacs_reader.specs.declared.forms.GraphLine.TheVariants.{Arc as ReadArc}
-use Rattle.dimacs_reader.specs.Forms.{GraphLine, Skipped, Problem, Arc, Formless}
+use Rattle.dimacs_reader.specs.Forms.{GraphForm, Skipped, Problem, Arc, Formless}
 use Rattle.dimacs_reader.specs.Graphs.{arc_line, road_and, roads_in, onto, largest_weight}
 use Rattle.dimacs_reader.specs.Reading.{read_graph_line, by_value}
 use Rattle.dimacs_reader.proofs.AllOnto.{all_onto}
@@ -47,7 +47,7 @@ road_cut nodes line from to weight rest h =
     on false f2 t1 t2 w ef et ew = refl
 
 -- what an arc says behind the problem line, where not all roads were found
-pub arc_says : (g : GraphLine) (f t w nodes said found line : ℕ) (answer : Result Road GraphFault) → read_graph_line g ≡ ReadArc f t w → found < said → nodes < 2 ^ 32
+pub arc_says : (g : GraphForm) (f t w nodes said found line : ℕ) (answer : Result Road GraphFault) → read_graph_line g ≡ ReadArc f t w → found < said → nodes < 2 ^ 32
     → ((another : Result (List Road) GraphFault) → road_and nodes line f t w another ≡ by_value answer (λ road. onto road another))
     → (skipped another : Result (List Road) GraphFault) → arc_line nodes said found line g skipped another ≡ by_value answer (λ road. onto road another)
 arc_says Skipped f t w nodes said found line answer e l n h skipped another = cc

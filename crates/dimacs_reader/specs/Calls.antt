@@ -18,7 +18,7 @@ use Rattle.dimacs_reader.specs.Forms.{graph_line, place_line}
 use Rattle.dimacs_reader.specs.Graphs.{graph_of, first_line, arc_line, road_and, onto, over_nodes}
 use Rattle.dimacs_reader.specs.Places.{Placed, AreCoordinates, places_of, opening_line, later_line, place_and}
 use Rattle.dimacs_reader.specs.Reading.{GivesLine, IsPlaceTable, by_answer, by_value, graph_ahead, roads_ahead, places_ahead, placed_ahead, placed_by, placed_and, read_coordinate}
-use Rattle.dimacs_reader.specs.Refusals.{IsRefusal, IsUndecided, IsReadFrom, IsReadBehind, IsUnfinished, StandsBehind, refused_line}
+use Rattle.dimacs_reader.specs.Refusals.{IsGraphRefusal, IsUndecided, IsReadFrom, IsReadBehind, IsUnfinished, StandsBehind, refused_line}
 
 -- What the calls promise. `old` and `shelf` are the reader and what is seen of the shelf before a call, `new` and `shelf'` after it.
 
@@ -34,7 +34,7 @@ ArePlacesOf nodes text coordinates = WhereTold text (λ told. (placed : List Pla
 
 -- a refusal is what the text says, where it is told
 abbrev pub RefusesText : {X Y : Type 0} → (says : List ℕ → Result Y GraphFault) → Option (List ℕ) → Result X GraphFault → Type 0
-RefusesText says text answer = IfErr answer (λ e. IsRefusal e → WhereTold text (λ told. says told ≡ Err e))
+RefusesText says text answer = IfErr answer (λ e. IsGraphRefusal e → WhereTold text (λ told. says told ≡ Err e))
 
 -- what was read doesn't say by which line the text is refused
 abbrev pub LeavesUndecided : {X : Type 0} → (says : List ℕ → Result X GraphFault) → ShelfState → ShelfState → Type 0
@@ -42,7 +42,7 @@ LeavesUndecided says shelf shelf' = WhereTold shelf.left (λ text. IsUndecided (
 
 -- where the text is refused, at most one read past the line that refuses it was read
 abbrev pub RefusesTextNear : {X : Type 0} → ShelfState → Result X GraphFault → ShelfState → Type 0
-RefusesTextNear shelf answer shelf' = IfErr answer (λ e. IsRefusal e → WhereTold shelf.left (λ text. IsReadNear (refused_line e) largest_text text shelf'.left))
+RefusesTextNear shelf answer shelf' = IfErr answer (λ e. IsGraphRefusal e → WhereTold shelf.left (λ text. IsReadNear (refused_line e) largest_text text shelf'.left))
 
 -- memory was wanted, and no line that was given refuses the text
 abbrev pub LeavesUnfinished : {X : Type 0} → (says : List ℕ → Result X GraphFault) → ShelfState → ShelfState → Type 0
@@ -55,8 +55,8 @@ abbrev pub IsSaid : {X : Type 0} → Option (Result X GraphFault) → X → Type
 IsSaid said x = WhereTold said (λ answer. answer ≡ Ok x)
 
 -- a refusal is what is said, where that is told
-abbrev pub Refuses : {X Y : Type 0} → Option (Result Y GraphFault) → Result X GraphFault → Type 0
-Refuses said answer = IfErr answer (λ e. IsRefusal e → WhereTold said (λ s. s ≡ Err e))
+abbrev pub RefusesSaid : {X Y : Type 0} → Option (Result Y GraphFault) → Result X GraphFault → Type 0
+RefusesSaid said answer = IfErr answer (λ e. IsGraphRefusal e → WhereTold said (λ s. s ≡ Err e))
 
 -- the answer for the next line
 abbrev pub GivesNext : Reader → ShelfState → Result Bool GraphFault → Line → Reader → ShelfState → Type 0
@@ -80,12 +80,12 @@ StaysBehind old shelf shelf' = (text : List ℕ) → IsReadFrom text old shelf.l
 
 -- a refusal names the line behind those that were given
 abbrev pub RefusesNext : {X : Type 0} → Reader → Result X GraphFault → Type 0
-RefusesNext old answer = IfErr answer (λ e. IsRefusal e → refused_line e ≡ old.given + 1)
+RefusesNext old answer = IfErr answer (λ e. IsGraphRefusal e → refused_line e ≡ old.given + 1)
 
 -- of whichever text the reader gave exactly the lines that it counted, at most one read past the line that refuses it was read
 abbrev pub RefusesNear : {X : Type 0} → Reader → ShelfState → Result X GraphFault → ShelfState → Type 0
 RefusesNear old shelf answer shelf' =
-    IfErr answer (λ e. IsRefusal e → (text : List ℕ) → IsReadFrom text old shelf.left → IsReadNear (refused_line e) largest_text text shelf'.left)
+    IfErr answer (λ e. IsGraphRefusal e → (text : List ℕ) → IsReadFrom text old shelf.left → IsReadNear (refused_line e) largest_text text shelf'.left)
 
 -- of whichever text the reader gave exactly the lines that it counted, no line that was given refuses it
 abbrev pub StaysUnfinished : {X : Type 0} → (says : Reader → Option (List ℕ) → Option (Result X GraphFault)) → Reader → ShelfState → ShelfState → Type 0

@@ -6,7 +6,7 @@ use Rattle.road_graph.specs.Roads.{Roads, is_node, node}
 use Rattle.road_graph.specs.Limits.{most_nodes, most_roads}
 use Rattle.dimacs_reader.specs.declared.faults.GraphFault.{GraphFault}
 use Rattle.dimacs_reader.specs.declared.faults.GraphFault.TheVariants.{Form, Count, Node, Weight, Limit}
-use Rattle.dimacs_reader.specs.Forms.{GraphLine, Skipped, Problem, Arc, Formless, graph_line}
+use Rattle.dimacs_reader.specs.Forms.{GraphForm, Skipped, Problem, Arc, Formless, graph_line}
 
 -- What a text says as a graph: its nodes and its roads in their order, or its first bad line and why it is bad.
 
@@ -30,7 +30,7 @@ road_and nodes line from to weight rest =
     (Err (Node line))
 
 -- what a line of that form says behind the problem line, where so many roads were said and so many were found before it
-abbrev pub arc_line : (nodes said found line : ℕ) → GraphLine → (skipped another : Result (List Road) GraphFault) → Result (List Road) GraphFault
+abbrev pub arc_line : (nodes said found line : ℕ) → GraphForm → (skipped another : Result (List Road) GraphFault) → Result (List Road) GraphFault
 arc_line nodes said found line Skipped skipped another = skipped
 arc_line nodes said found line (Problem n m) skipped another = Err (Form line)
 arc_line nodes said found line (Arc from to weight) skipped another = cond (found == said) (Err (Count line said (found + 1))) (road_and nodes line from to weight another)
@@ -47,7 +47,7 @@ abbrev pub over_nodes : ℕ → Result (List Road) GraphFault → Result Roads G
 over_nodes nodes rest = map_ok (λ roads. record { nodes = nodes; roads = roads }) rest
 
 -- what a line of that form says where no problem line came before it
-abbrev pub first_line : (line : ℕ) → GraphLine → (skipped : Result Roads GraphFault) → (ℕ → ℕ → Result (List Road) GraphFault) → Result Roads GraphFault
+abbrev pub first_line : (line : ℕ) → GraphForm → (skipped : Result Roads GraphFault) → (ℕ → ℕ → Result (List Road) GraphFault) → Result Roads GraphFault
 first_line line Skipped skipped behind = skipped
 first_line line (Problem nodes said) skipped behind = cond (nat_le nodes most_nodes && nat_le said most_roads) (over_nodes nodes (behind nodes said)) (Err (Limit line))
 first_line line (Arc from to weight) skipped behind = Err (Form line)

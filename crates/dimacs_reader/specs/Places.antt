@@ -5,7 +5,7 @@ use Rattle.road_graph.specs.Roads.{is_node, node}
 use Rattle.road_graph.specs.Limits.{most_nodes}
 use Rattle.dimacs_reader.specs.declared.faults.GraphFault.{GraphFault}
 use Rattle.dimacs_reader.specs.declared.faults.GraphFault.TheVariants.{Form, Count, Node, Weight, Limit}
-use Rattle.dimacs_reader.specs.Forms.{PlaceLine, Skipped, Header, Place, Formless, place_line}
+use Rattle.dimacs_reader.specs.Forms.{PlaceForm, Skipped, Header, Place, Formless, place_line}
 use Rattle.dimacs_reader.specs.Graphs.{onto}
 
 -- What a text says as places of so many nodes: where each node lies, or its first bad line and why it is bad.
@@ -34,7 +34,7 @@ place_and nodes line before place rest =
     (Err (Node line))
 
 -- what a line of that form says behind the header, where these places were found before it
-abbrev pub later_line : (nodes line : ℕ) → List Placed → PlaceLine → (skipped : Result (List Placed) GraphFault) → (Placed → Result (List Placed) GraphFault) → Result (List Placed) GraphFault
+abbrev pub later_line : (nodes line : ℕ) → List Placed → PlaceForm → (skipped : Result (List Placed) GraphFault) → (Placed → Result (List Placed) GraphFault) → Result (List Placed) GraphFault
 later_line nodes line before Skipped skipped another = skipped
 later_line nodes line before (Header n) skipped another = Err (Form line)
 later_line nodes line before (Place n x y) skipped another =
@@ -51,7 +51,7 @@ places_behind nodes line before (TooLong ∷ more) = Err (Limit line)
 places_behind nodes line before (TooLarge ∷ more) = Err (Limit line)
 
 -- what a line of that form says where no header came before it
-abbrev pub opening_line : (nodes line : ℕ) → PlaceLine → (skipped behind : Result (List Placed) GraphFault) → Result (List Placed) GraphFault
+abbrev pub opening_line : (nodes line : ℕ) → PlaceForm → (skipped behind : Result (List Placed) GraphFault) → Result (List Placed) GraphFault
 opening_line nodes line Skipped skipped behind = skipped
 opening_line nodes line (Header n) skipped behind = cond (nat_le n most_nodes) (cond (n == nodes) behind (Err (Count line n nodes))) (Err (Limit line))
 opening_line nodes line (Place n x y) skipped behind = Err (Form line)

@@ -11,13 +11,13 @@ use Rattle.road_graph.specs.declared.road.Road.{Road}
 use Rattle.road_graph.specs.Roads.{Roads}
 use Rattle.dimacs_reader.specs.declared.faults.GraphFault.{GraphFault}
 use Rattle.dimacs_reader.specs.declared.faults.GraphFault.TheVariants.{Fault, Form, Count, Node, Weight, Limit, NoMemory}
-use Rattle.dimacs_reader.specs.declared.forms.GraphLine.{GraphLine as ReadGraphLine}
+use Rattle.dimacs_reader.specs.declared.forms.GraphLine.{GraphLine}
 use Rattle.dimacs_reader.specs.declared.forms.GraphLine.TheVariants as graph
-use Rattle.dimacs_reader.specs.declared.forms.PlaceLine.{PlaceLine as ReadPlaceLine}
+use Rattle.dimacs_reader.specs.declared.forms.PlaceLine.{PlaceLine}
 use Rattle.dimacs_reader.specs.declared.forms.PlaceLine.TheVariants as place
 use Rattle.dimacs_reader.specs.declared.forms.Coordinate.{Coordinate}
 use Rattle.dimacs_reader.specs.declared.forms.Coordinate.TheVariants.{Within, Outside}
-use Rattle.dimacs_reader.specs.Forms.{GraphLine, Skipped, Problem, Arc, Formless, PlaceLine, Header, Place, is_signed, signed_of}
+use Rattle.dimacs_reader.specs.Forms.{GraphForm, Skipped, Problem, Arc, Formless, PlaceForm, Header, Place, is_signed, signed_of}
 use Rattle.dimacs_reader.specs.declared.places.Placing.{Placing}
 use Rattle.dimacs_reader.specs.Graphs.{graph_in, roads_in, onto}
 use Rattle.dimacs_reader.specs.Places.{Placed, is_coordinate, places_in, places_behind, stood_before}
@@ -25,7 +25,7 @@ use Rattle.dimacs_reader.specs.Places.{Placed, is_coordinate, places_in, places_
 -- What the calls that read a line at a time say of the whole text.
 
 -- a line of a graph as it is read
-abbrev pub read_graph_line : GraphLine → ReadGraphLine
+abbrev pub read_graph_line : GraphForm → GraphLine
 read_graph_line Skipped = graph.Skipped
 read_graph_line (Problem nodes roads) = graph.Problem (capped nodes) (capped roads)
 read_graph_line (Arc from to weight) = graph.Arc (capped from) (capped to) (capped weight)
@@ -40,7 +40,7 @@ abbrev pub coordinate_of : List ℕ → Option Coordinate
 coordinate_of field = cond (is_signed field) (Some (read_coordinate (signed_of field))) None
 
 -- a line of places as it is read
-abbrev pub read_place_line : PlaceLine → ReadPlaceLine
+abbrev pub read_place_line : PlaceForm → PlaceLine
 read_place_line Skipped = place.Skipped
 read_place_line (Header nodes) = place.Header (capped nodes)
 read_place_line (Place node x y) = place.Place (capped node) (read_coordinate x) (read_coordinate y)

@@ -6,14 +6,14 @@ use Rattle.dimacs_reader.specs.declared.faults.GraphFault.{GraphFault}
 use Rattle.dimacs_reader.specs.declared.faults.GraphFault.TheVariants.{Fault, Form, Count, Node, Weight, Limit, NoMemory}
 
 -- a fault by which the text itself is refused
-abbrev pub IsRefusal : GraphFault → Type 0
-IsRefusal Fault = ⊥
-IsRefusal (Form line) = Unit {0}
-IsRefusal (Count line said found) = Unit {0}
-IsRefusal (Node line) = Unit {0}
-IsRefusal (Weight line) = Unit {0}
-IsRefusal (Limit line) = Unit {0}
-IsRefusal NoMemory = ⊥
+abbrev pub IsGraphRefusal : GraphFault → Type 0
+IsGraphRefusal Fault = ⊥
+IsGraphRefusal (Form line) = Unit {0}
+IsGraphRefusal (Count line said found) = Unit {0}
+IsGraphRefusal (Node line) = Unit {0}
+IsGraphRefusal (Weight line) = Unit {0}
+IsGraphRefusal (Limit line) = Unit {0}
+IsGraphRefusal NoMemory = ⊥
 
 -- the line by which a text is refused
 abbrev pub refused_line : GraphFault → ℕ
@@ -27,7 +27,7 @@ refused_line NoMemory = 0
 
 -- a fault by which the line of that number refuses the text
 abbrev pub IsRefusalAt : (line : ℕ) → GraphFault → Type 0
-IsRefusalAt line fault = IsRefusal fault × (refused_line fault ≡ line)
+IsRefusalAt line fault = IsGraphRefusal fault × (refused_line fault ≡ line)
 
 -- Where the shelf failed, the line end of no bad line was read, nor a byte past the limit of the text.
 abbrev pub IsUndecided : {X : Type 0} → Result X GraphFault → List ℕ → Option (List ℕ) → Type 0

@@ -5,7 +5,7 @@ ghost use Rattle.road_graph.specs.Faults.{fault_in};
 ghost use Rattle.road_graph.specs.Graphs.{IsGraph};
 ghost use Rattle.road_graph.specs.Roads.{is_node, is_within, node as node_of};
 ghost use Rattle.road_graph.specs.Limits.{most_nodes, most_roads};
-ghost use Rattle.dimacs_reader.specs.Calls.{IsGraphSaid, IsProblemAhead, IsSaid, LeavesUndecided, LeavesUnfinished, Refuses, RefusesNear, RefusesText, RefusesTextNear, SaysArc, SaysProblem, SaysRoad, StaysReadFrom, StaysUndecided, StaysUnfinished, said_roads};
+ghost use Rattle.dimacs_reader.specs.Calls.{IsGraphSaid, IsProblemAhead, IsSaid, LeavesUndecided, LeavesUnfinished, RefusesSaid, RefusesNear, RefusesText, RefusesTextNear, SaysArc, SaysProblem, SaysRoad, StaysReadFrom, StaysUndecided, StaysUnfinished, said_roads};
 ghost use Rattle.dimacs_reader.specs.Graphs.{graph_of};
 ghost use Rattle.dimacs_reader.specs.Reading.{graph_ahead};
 ghost use Rattle.dimacs_reader.specs.Refusals.{IsRefusalAt};
@@ -68,7 +68,7 @@ fn read_problem<S: Shelf>(
         (IsProblemAhead lines.old (S.seen shelf.old) lines.new (S.seen shelf.new)) }
     ensures few_nodes { IfOk result (λ said. said.nodes ≤ most_nodes) }
     ensures few_roads { IfOk result (λ said. said.roads ≤ most_roads) }
-    ensures refused { Refuses (graph_ahead lines.old (S.seen shelf.old).left) result }
+    ensures refused { RefusesSaid (graph_ahead lines.old (S.seen shelf.old).left) result }
     ensures goes { IsOk result
         → StaysReadFrom lines.old (S.seen shelf.old) lines.new (S.seen shelf.new) }
     ensures unread { result ≡ Err GraphFault.Fault
@@ -130,7 +130,7 @@ fn read_roads<S: Shelf>(
     requires few_roads { said.roads ≤ most_roads }
     ensures roads { IfOk result (IsSaid (said_roads said lines.old (S.seen shelf.old).left)) }
     ensures sound { IfOk result (λ roads. fault_in said.nodes roads ≡ None) }
-    ensures refused { Refuses (said_roads said lines.old (S.seen shelf.old).left) result }
+    ensures refused { RefusesSaid (said_roads said lines.old (S.seen shelf.old).left) result }
     ensures unread { result ≡ Err GraphFault.Fault
         → StaysUndecided (said_roads said) lines.old (S.seen shelf.old) (S.seen shelf.new) }
     ensures goes { IsOk result

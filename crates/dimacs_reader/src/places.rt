@@ -1,7 +1,7 @@
 ghost use Rattle.std.specs.Prelude.{◌≡◌, ◌≢◌, ℕ, ◌<◌, ◌≤◌, ◌+◌, ◌-◌, ◌^◌, [], true, IfOk, IfErr, IfSome, IfNone, IsOk, Err, None, OnOk, length, set};
 ghost use Rattle.std.specs.Option.{option_to_list};
 ghost use Rattle.ride_base.specs.Outside.{CountRose, CountStays, OnlyRead};
-ghost use Rattle.dimacs_reader.specs.Calls.{ArePlacesOf, AreSaidPlaces, HoldsMore, HoldsPlaces, IsFreeAt, IsHeaderAhead, IsNoneFree, LeavesUndecided, LeavesUnfinished, Refuses, RefusesNear, RefusesText, RefusesTextNear, SaysHeader, SaysPlace, SaysPlacing, StaysReadFrom, StaysUndecided, StaysUnfinished};
+ghost use Rattle.dimacs_reader.specs.Calls.{ArePlacesOf, AreSaidPlaces, HoldsMore, HoldsPlaces, IsFreeAt, IsHeaderAhead, IsNoneFree, LeavesUndecided, LeavesUnfinished, RefusesSaid, RefusesNear, RefusesText, RefusesTextNear, SaysHeader, SaysPlace, SaysPlacing, StaysReadFrom, StaysUndecided, StaysUnfinished};
 ghost use Rattle.dimacs_reader.specs.Places.{places_of};
 ghost use Rattle.dimacs_reader.specs.Reading.{places_ahead, placed_ahead};
 ghost use Rattle.dimacs_reader.specs.Refusals.{IsRefusalAt};
@@ -73,7 +73,7 @@ fn read_header<S: Shelf>(
     requires unstopped { lines.old.stopped ≡ None }
     ensures header { OnOk result
         (IsHeaderAhead nodes lines.old (S.seen shelf.old) lines.new (S.seen shelf.new)) }
-    ensures refused { Refuses (places_ahead nodes lines.old (S.seen shelf.old).left) result }
+    ensures refused { RefusesSaid (places_ahead nodes lines.old (S.seen shelf.old).left) result }
     ensures goes { IsOk result
         → StaysReadFrom lines.old (S.seen shelf.old) lines.new (S.seen shelf.new) }
     ensures unread { result ≡ Err GraphFault.Fault
@@ -139,7 +139,7 @@ fn read_each<S: Shelf>(
         (λ v. AreSaidPlaces nodes
         (placed_ahead nodes [] lines.old (S.seen shelf.old).left) v.items) }
     ensures all { IfOk result (λ v. length v.items ≡ nodes) }
-    ensures refused { Refuses (placed_ahead nodes [] lines.old (S.seen shelf.old).left) result }
+    ensures refused { RefusesSaid (placed_ahead nodes [] lines.old (S.seen shelf.old).left) result }
     ensures unread { result ≡ Err GraphFault.Fault
         → StaysUndecided (placed_ahead nodes []) lines.old (S.seen shelf.old) (S.seen shelf.new) }
     ensures near { RefusesNear lines.old (S.seen shelf.old) result (S.seen shelf.new) }

@@ -57,9 +57,7 @@ on_ok (Err e) f h = tt
 -- what a fleet answers is the answer on its board, where the request waits
 pub answer_to : (g : Roads) (b : Board) (r : Request) (d : Decision) (direct : ℕ) → IsAnswerOf g b.fleet r d direct → IsAnswerTo g b (as_waiting r) d direct
 answer_to g b r Nobody direct h = h.1
-answer_to g b r (IsAssigned a) direct h =
-    let f = h.best.feasible in
-    record { car = f.car; best = h.best; direct_way = h.direct_way; stands = f.stands; walks = h.walks f.car f.stands }
+answer_to g b r (IsAssigned a) direct h = h
 
 -- its direct way is short
 pub short_direct : (g : Roads) (b : Board) (r : Request) (d : Decision) (direct : ℕ) → IsAnswerOf g b.fleet r d direct → IsShortWay d direct → direct < 2 ^ 53

@@ -10,13 +10,13 @@ use Rattle.road_graph.specs.Roads.{Roads}
 use Rattle.dimacs_reader.specs.declared.faults.GraphFault.{GraphFault}
 use Rattle.dimacs_reader.specs.declared.faults.GraphFault.TheVariants as graph
 use Rattle.dimacs_reader.specs.Graphs.{graph_of}
-use Rattle.dimacs_reader.specs.Refusals.{IsRefusal, IsUndecided, refused_line}
+use Rattle.dimacs_reader.specs.Refusals.{IsGraphRefusal, IsUndecided, refused_line}
 use Rattle.stop_schedule.specs.declared.vehicle.Vehicle.{Vehicle}
 use Rattle.stop_schedule.specs.Bounds.{AreVehicles}
 use Rattle.input_tables.specs.declared.faults.FleetFault.{FleetFault}
 use Rattle.input_tables.specs.declared.faults.FleetFault.TheVariants as fleet
 use Rattle.input_tables.specs.Fleets.{fleet_of}
-use Rattle.input_tables.specs.Refusals.{IsReadWithin, IsRefusal as IsFleetRefusal}
+use Rattle.input_tables.specs.Refusals.{IsReadWithin, IsFleetRefusal}
 use Rattle.dispatch_top.specs.declared.status.Status.TheVariants as status
 use Rattle.dispatch_top.specs.declared.stops.ReadingStop.TheVariants.{Graph, Fleet}
 use Rattle.dispatch_top.specs.declared.stops.TextStop.{TextStop}
@@ -47,10 +47,10 @@ module _ (name : Word) (old new : ShelfState) where
   fleet_unbegun nodes fault n u k = unbegun (λ row text. IsBadAtRow (fleet_of nodes text) row) (λ left text. IsReadWithin text left) fault n u k
 
   module _ (all : Option (List ℕ)) (is_all : IsAllOf (old.held name) all) (named : AddsName old name new) where
-    bad_graph : (f : GraphFault) (line : ℕ) → WhereTold all (λ text. graph_of text ≡ Err f) → IsRefusal f → refused_line f ≡ line → Says old name (λ text. IsBadAt (graph_of text) line)
+    bad_graph : (f : GraphFault) (line : ℕ) → WhereTold all (λ text. graph_of text ≡ Err f) → IsGraphRefusal f → refused_line f ≡ line → Says old name (λ text. IsBadAt (graph_of text) line)
     bad_graph f line w r e = of_held (λ t. IsBadAt (graph_of t) line) (old.held name) all is_all (told_so (λ t. graph_of t ≡ Err f) _ all (λ t k. (f, k, r, e)) w)
 
-    pub graph_refused : (fault : GraphFault) → (IsRefusal fault → WhereTold all (λ text. graph_of text ≡ Err fault)) → (fault ≡ graph.Fault → WhereTold all (λ text. IsUndecided (graph_of text) text new.left))
+    pub graph_refused : (fault : GraphFault) → (IsGraphRefusal fault → WhereTold all (λ text. graph_of text ≡ Err fault)) → (fault ≡ graph.Fault → WhereTold all (λ text. IsUndecided (graph_of text) text new.left))
         → StopsGraph name old new (stop_of_graph fault)
     graph_refused graph.Fault r u = (named, λ begun. of_held (λ t. IsUndecided (graph_of t) t new.left) (old.held name) all is_all (u refl))
     graph_refused (graph.Form line) r u = (named, bad_graph (graph.Form line) line (r tt) tt refl)

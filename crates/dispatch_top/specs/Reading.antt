@@ -4,13 +4,13 @@ use Rattle.road_graph.specs.Graphs.{IsGraph}
 use Rattle.road_graph.specs.Roads.{Roads}
 use Rattle.dimacs_reader.specs.declared.faults.GraphFault.{GraphFault}
 use Rattle.dimacs_reader.specs.Graphs.{graph_of}
-use Rattle.dimacs_reader.specs.Refusals.{IsRefusal, IsUndecided, refused_line}
+use Rattle.dimacs_reader.specs.Refusals.{IsGraphRefusal, IsUndecided, refused_line}
 use Rattle.stop_schedule.specs.declared.vehicle.Vehicle.{Vehicle}
 use Rattle.stop_schedule.specs.Bounds.{AreVehicles}
 use Rattle.input_tables.specs.declared.faults.FleetFault.{FleetFault}
 use Rattle.input_tables.specs.declared.faults.FleetFault.TheVariants.{Fault, Large, Header, Form, Range, Double, NoMemory as FleetNoMemory}
 use Rattle.input_tables.specs.Fleets.{fleet_of}
-use Rattle.input_tables.specs.Refusals.{IsReadWithin, IsRefusal as IsFleetRefusal}
+use Rattle.input_tables.specs.Refusals.{IsReadWithin, IsFleetRefusal}
 use Rattle.dispatch_top.specs.declared.status.Status.{Status}
 use Rattle.dispatch_top.specs.declared.status.Status.TheVariants as status
 use Rattle.dispatch_top.specs.Forms.{Stage, GraphText, FleetText}
@@ -42,7 +42,7 @@ row_of FleetNoMemory = 0
 
 -- the first bad line of a graph by what its text says, and the first bad row of a fleet
 abbrev pub IsBadAt : Result Roads GraphFault → (line : ℕ) → Type 0
-IsBadAt said line = (fault : GraphFault) × (said ≡ Err fault) × IsRefusal fault × (refused_line fault ≡ line)
+IsBadAt said line = (fault : GraphFault) × (said ≡ Err fault) × IsGraphRefusal fault × (refused_line fault ≡ line)
 
 abbrev pub IsBadAtRow : Result (List Vehicle) FleetFault → (row : ℕ) → Type 0
 IsBadAtRow said row = (fault : FleetFault) × (said ≡ Err fault) × IsFleetRefusal fault × (row_of fault ≡ row)

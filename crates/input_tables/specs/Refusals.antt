@@ -7,14 +7,14 @@ use Rattle.input_tables.specs.declared.faults.FleetFault.TheVariants.{Fault, Lar
 use Rattle.input_tables.specs.Fleets.{largest_fleet_text, fleet_in, fleet_of}
 
 -- a fault by which the text itself is refused
-abbrev pub IsRefusal : FleetFault → Type 0
-IsRefusal Fault = ⊥
-IsRefusal Large = Unit {0}
-IsRefusal Header = Unit {0}
-IsRefusal (Form row) = Unit {0}
-IsRefusal (Range row) = Unit {0}
-IsRefusal (Double row) = Unit {0}
-IsRefusal NoMemory = ⊥
+abbrev pub IsFleetRefusal : FleetFault → Type 0
+IsFleetRefusal Fault = ⊥
+IsFleetRefusal Large = Unit {0}
+IsFleetRefusal Header = Unit {0}
+IsFleetRefusal (Form row) = Unit {0}
+IsFleetRefusal (Range row) = Unit {0}
+IsFleetRefusal (Double row) = Unit {0}
+IsFleetRefusal NoMemory = ⊥
 
 -- where the shelf failed or memory was wanted, no byte past the limit was read of the text
 abbrev pub IsReadWithin : (text : List ℕ) (left : Option (List ℕ)) → Type 0
@@ -28,12 +28,12 @@ abbrev pub IsRefusedFor : (nodes : ℕ) → FleetFault → List ℕ → Type 0
 IsRefusedFor nodes fault text = fleet_of nodes text ≡ Err fault
 
 -- a fault that refuses the text is what the definition answers
-abbrev pub Refuses : {X : Type 0} → Result X FleetFault → FleetFault → Type 0
-Refuses answer fault = IsRefusal fault → answer ≡ Err fault
+abbrev pub RefusesFleet : {X : Type 0} → Result X FleetFault → FleetFault → Type 0
+RefusesFleet answer fault = IsFleetRefusal fault → answer ≡ Err fault
 
 -- the same for the records of a table over any number of nodes
 abbrev pub RefusesRecords : List (List (List ℕ)) → FleetFault → Type 0
-RefusesRecords records fault = IsRefusal fault → (nodes : ℕ) → fleet_in nodes records ≡ Err fault
+RefusesRecords records fault = IsFleetRefusal fault → (nodes : ℕ) → fleet_in nodes records ≡ Err fault
 
 -- What the table's fault is where its text can't be read. A text that is read whole has no long line.
 abbrev pub fault_of_text : LineFault → FleetFault

@@ -8,7 +8,7 @@ ghost use Rattle.stop_schedule.specs.declared.vehicle.Vehicle.{Vehicle};
 ghost use Rattle.std.specs.BTreeMap.{values};
 ghost use Rattle.input_tables.specs.Fleets.{fleet_in, fleet_in_text, largest_fleet_text, rows_in, vehicle_of_record, stood_before, is_in_range as is_in_range_of};
 ghost use Rattle.input_tables.specs.Records.{IsReading, records_left};
-ghost use Rattle.input_tables.specs.Refusals.{HasFleet, IsReadWithin, IsRefusal, IsRefusedFor, Refuses, RefusesRecords, fault_of_text};
+ghost use Rattle.input_tables.specs.Refusals.{HasFleet, IsReadWithin, IsFleetRefusal, IsRefusedFor, RefusesFleet, RefusesRecords, fault_of_text};
 ghost use Rattle.stop_schedule.specs.Bounds.{AreVehicles};
 ghost use Rattle.input_tables.specs.Rows.{IsHeaded, Keeps, kept_of, ranged_by, vehicle_by};
 
@@ -39,7 +39,7 @@ pub fn read_fleet<S: Shelf>(
     requires { (S.seen shelf.old).begun ≡ true }
     ensures fleet { IfOk result (λ v. WhereTold (S.seen shelf.old).left (HasFleet nodes v)) }
     ensures vehicles { IfOk result (λ v. AreVehicles nodes v) }
-    ensures refused { IfErr result (λ e. IsRefusal e
+    ensures refused { IfErr result (λ e. IsFleetRefusal e
         → WhereTold (S.seen shelf.old).left (IsRefusedFor nodes e)) }
     ensures fault { result ≡ Err FleetFault.Fault
         → CountRose (S.seen shelf.old) (S.seen shelf.new) }
@@ -77,7 +77,7 @@ fn fault_of_text(fault: LineFault) -> FleetFault
 fn vehicles_of(alloc: Global, text: &[u8], nodes: u32) -> Result<Items<Vehicle>, FleetFault>
     ensures fleet { IfOk result (λ v. fleet_in_text nodes text.now ≡ Ok v) }
     ensures vehicles { IfOk result (λ v. AreVehicles nodes v) }
-    ensures refused { IfErr result (Refuses (fleet_in_text nodes text.now)) }
+    ensures refused { IfErr result (RefusesFleet (fleet_in_text nodes text.now)) }
     ensures unfailed { result ≡ Err FleetFault.Fault → ⊥ }
 {
     let mut reader = records_of(alloc, text);
@@ -93,7 +93,7 @@ fn read_table(
     requires { IsReading reader.old }
     ensures fleet { IfOk result (λ v. fleet_in nodes (records_left reader.old) ≡ Ok v) }
     ensures vehicles { IfOk result (λ v. AreVehicles nodes v) }
-    ensures refused { IfErr result (Refuses (fleet_in nodes (records_left reader.old))) }
+    ensures refused { IfErr result (RefusesFleet (fleet_in nodes (records_left reader.old))) }
     ensures unfailed { result ≡ Err FleetFault.Fault → ⊥ }
 {
     let mut fields = ByteRecord::new(alloc);
@@ -131,7 +131,7 @@ fn read_rows(
     requires { IsReading reader.old }
     ensures rows { IfOk result
         (λ v. kept_of (rows_in spaces nodes (records_left reader.old)) ≡ Ok v.entries) }
-    ensures refused { IfErr result (Refuses (rows_in spaces nodes (records_left reader.old))) }
+    ensures refused { IfErr result (RefusesFleet (rows_in spaces nodes (records_left reader.old))) }
     ensures unfailed { result ≡ Err FleetFault.Fault → ⊥ }
 {
     let mut vehicles = BTreeMap::new(alloc);
@@ -152,7 +152,7 @@ fn vehicle_in(
     before: &Vehicles,
     nodes: u32,
 ) -> Result<Vehicle, FleetFault>
-    ensures refusal { IfErr result IsRefusal }
+    ensures refusal { IfErr result IsFleetRefusal }
     ensures vehicle { (rows : List Vehicle) → Keeps before.now rows
         → result ≡ vehicle_of_record spaces nodes row rows (fields_of fields.now) }
 {

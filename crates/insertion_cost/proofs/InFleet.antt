@@ -11,7 +11,7 @@ use Rattle.stop_schedule.specs.Keeping.{HasLeastWalks, IsOverAGraph, keeps}
 use Rattle.stop_schedule.specs.Plans.{Plan}
 use Rattle.stop_schedule.specs.Rates.{Rates}
 use Rattle.insertion_cost.specs.declared.offer.Offer.{Offer}
-use Rattle.insertion_cost.specs.declared.pairs.Standing.{Standing}
+use Rattle.insertion_cost.specs.declared.pairs.PlacedVehicle.{PlacedVehicle}
 use Rattle.insertion_cost.specs.Offers.{IsOfferFrom, IsFirst}
 use Rattle.insertion_cost.specs.Pairs.{IsCarOf, IsBestFrom}
 use Rattle.insertion_cost.specs.Pricers.{IsEntryAt}
@@ -44,7 +44,7 @@ module _ (fleet : Cars) (place : ℕ) (p : Plan) (clock : ℕ) (within : place <
       subst (λ (q : Plan). keeps rates q ≡ true) (sym (plan c.0 c.1)) (subst (λ (x : Rates). keeps x c.0.plan ≡ true) (sym same) (good.each place c.0 c.1).kept)
 
   -- its entry is that of the vehicle
-  pub is_entry : (g : Roads) (r : Request) (v : Standing) (rates : Rates) (front : Front) (best : Option Offer) → v.place ≡ place → OfCar fleet place (λ (car : Car). v.no ≡ car.no) → rates ≡ fleet.rates → front ≡ front_of p clock
+  pub is_entry : (g : Roads) (r : Request) (v : PlacedVehicle) (rates : Rates) (front : Front) (best : Option Offer) → v.place ≡ place → OfCar fleet place (λ (car : Car). v.no ≡ car.no) → rates ≡ fleet.rates → front ≡ front_of p clock
       → ((car : Car) → IsCarOf v p car → IsBestFrom g rates v.place car front r best) → IsEntryAt g fleet r place (record { place = place; front = front; best = best })
   is_entry g r v rates front best there number same ahead all = λ car h. record {
     there = ap (λ (n : ℕ). n) (there_is);

@@ -16,7 +16,7 @@ use Rattle.stop_schedule.specs.Lists.{changed_ends}
 use Rattle.stop_schedule.specs.Plans.{Plan}
 use Rattle.stop_schedule.specs.Rates.{Rates}
 use Rattle.insertion_cost.specs.declared.offer.Offer.{Offer}
-use Rattle.insertion_cost.specs.declared.pairs.Standing.{Standing}
+use Rattle.insertion_cost.specs.declared.pairs.PlacedVehicle.{PlacedVehicle}
 use Rattle.insertion_cost.specs.declared.pricing.Priced.{Priced}
 use Rattle.stop_schedule.specs.Distances.{AreDistances}
 use Rattle.insertion_cost.specs.NodeWays.{IsOnlyPrice}
@@ -79,7 +79,7 @@ offer_is o cost number place at leave arrive ec en ep ea el er =
 pub pair_is : (at : Insertion) (i j : ℕ) → at.i ≡ i → at.j ≡ j → at ≡ record { i = i; j = j }
 pair_is at i j ei ej = ap {B = Insertion} (λ (x : ℕ). record { i = x; j = at.j }) ei ∙ ap {B = Insertion} (λ (x : ℕ). record { i = i; j = x }) ej
 
-module _ (g : Roads) (rates : Rates) (v : Standing) (p : Plan) (car : Car) (front : Front) (r : Request) (is : IsCarOf v p car) where
+module _ (g : Roads) (rates : Rates) (v : PlacedVehicle) (p : Plan) (car : Car) (front : Front) (r : Request) (is : IsCarOf v p car) where
   -- an offer of the vehicle for one pair
   record IsAt (at : Insertion) (o : Offer) : Type 0 where
     offer : IsOfferFrom g rates v.place car front r o

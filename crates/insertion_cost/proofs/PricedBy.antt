@@ -21,7 +21,7 @@ use Rattle.insertion_cost.specs.declared.behind.Behind.{Behind}
 use Rattle.insertion_cost.specs.declared.node_ways.NodeWays.{NodeWays}
 use Rattle.insertion_cost.specs.declared.on_the_way.OnTheWay.{OnTheWay}
 use Rattle.insertion_cost.specs.declared.offer.Offer.{Offer}
-use Rattle.insertion_cost.specs.declared.pairs.Standing.{Standing}
+use Rattle.insertion_cost.specs.declared.pairs.PlacedVehicle.{PlacedVehicle}
 use Rattle.insertion_cost.specs.declared.spans.Spans.{Spans}
 use Rattle.insertion_cost.specs.Behind.{busy_behind, IsBehind, AreBehind}
 use Rattle.insertion_cost.specs.Changes.{course_from}
@@ -141,7 +141,7 @@ pub room_there : (rates : Rates) (p : Plan) (r : Request) (rows : List Behind) (
 room_there rates p r rows j b some within there = room_by rates.stop p.until some.0 p r j b (some.1.each (length p.stops - j) j b there (omega arith))
 
 -- where it doesn't, no later pair of stop i has a price
-pub nobody_more : (g : Roads) (rates : Rates) (v : Standing) (p : Plan) (car : Car) (front : Front) (r : Request) (is : IsCarOf v p car) (direct : ℕ) (ways : List NodeWays) (rows : List Behind) (i leave j : ℕ) (w : OnTheWay) (b : Behind) (best : Option Offer)
+pub nobody_more : (g : Roads) (rates : Rates) (v : PlacedVehicle) (p : Plan) (car : Car) (front : Front) (r : Request) (is : IsCarOf v p car) (direct : ℕ) (ways : List NodeWays) (rows : List Behind) (i leave j : ℕ) (w : OnTheWay) (b : Behind) (best : Option Offer)
     → AreWaysAlong g r front p.stops direct ways → AreSomeBehind rates p rows → IsLed rates p front r ways i leave j w → j ≤ length p.stops → slice_get rows (length p.stops - j) ≡ Some b → (HasRoomBy p r b → ⊥)
     → IsBestOfTried g rates v.place car front r i j best → IsBestOfTried g rates v.place car front r (i + 1) (i + 1) best
 nobody_more g rates v p car front r is direct ways rows i leave j w b best along some led within there not t =

@@ -7,16 +7,16 @@ use Rattle.stop_schedule.specs.Fleets.{Car}
 use Rattle.stop_schedule.specs.Plans.{Plan}
 use Rattle.stop_schedule.specs.Rates.{Rates}
 use Rattle.insertion_cost.specs.declared.offer.Offer.{Offer}
-use Rattle.insertion_cost.specs.declared.pairs.Standing.{Standing}
+use Rattle.insertion_cost.specs.declared.pairs.PlacedVehicle.{PlacedVehicle}
 use Rattle.insertion_cost.specs.declared.pricing.Priced.{Priced}
 use Rattle.insertion_cost.specs.Offers.{IsOfferFrom, IsFirst}
 
 -- the offer of a vehicle for a pair that has a price
-abbrev pub offer_by : Standing → Insertion → Priced → Offer
+abbrev pub offer_by : PlacedVehicle → Insertion → Priced → Offer
 offer_by v at p = record { cost = p.cost; no = v.no; place = v.place; at = at; leave = p.leave; arrive = p.arrive }
 
 -- the vehicle has this number and this schedule
-pub record IsCarOf (v : Standing) (p : Plan) (car : Car) : Type 0 where
+pub record IsCarOf (v : PlacedVehicle) (p : Plan) (car : Car) : Type 0 where
   pub number : car.no ≡ v.no
   pub plan : car.plan ≡ p
 

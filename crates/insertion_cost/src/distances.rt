@@ -10,7 +10,7 @@ ghost use Rattle.insertion_cost.specs.Pricers.{IsBestAt, IsRequestIn};
 use crate::behind::Behind;
 use crate::node_ways::NodeWays;
 use crate::offer::{Offer, first_of_two};
-use crate::pairs::{Standing, best_from};
+use crate::pairs::{PlacedVehicle, best_from};
 use ride_base::NoMemory;
 use road_graph::NodeNo;
 use std::alloc::Global;
@@ -98,7 +98,7 @@ fn best_at<F: FleetView, D: Distances>(
     let schedule = view.schedule(place);
     let front = schedule.front(view.clock());
     gather_ways(alloc, request, &front, schedule.stops(), distances, ways)?;
-    let vehicle = Standing {
+    let vehicle = PlacedVehicle {
         no: view.no(place),
         place,
     };

@@ -31,7 +31,7 @@ pub use distances::{Distances, best_plain};
 pub use laws::prices_are_monotone;
 pub use node_ways::NodeWays;
 pub use offer::{Offer, first_of_two, is_before};
-pub use pairs::{Standing, best_from};
+pub use pairs::{PlacedVehicle, best_from};
 pub use plain::{PlainAnswers, PlainPricer};
 pub use pricer::Pricer;
 pub use pricing::{Priced, price, promise};

@@ -26,7 +26,7 @@ use stop_schedule::{Front, Insertion, MOST_STOPS, Params, Request, Schedule};
 
 /// Which vehicle is priced.
 #[derive(Clone, Copy, Debug, PartialEq, Eq)]
-pub struct Standing {
+pub struct PlacedVehicle {
     /// Its number.
     pub no: VehicleNo,
     /// Its place in the fleet, from 0.
@@ -253,7 +253,7 @@ fn onto_next(
 }
 
 /// The offer of a vehicle for a pair that has a price.
-fn offer_by(vehicle: Standing, at: Insertion, priced: Option<Priced>) -> Option<Offer>
+fn offer_by(vehicle: PlacedVehicle, at: Insertion, priced: Option<Priced>) -> Option<Offer>
     ensures { result ≡ option_map (offer_of_price vehicle at) priced }
 {
     let priced = priced?;
@@ -269,7 +269,7 @@ fn offer_by(vehicle: Standing, at: Insertion, priced: Option<Priced>) -> Option<
 
 /// The best of an offer and those of a vehicle that takes the riders up behind stop i and has left them then.
 fn best_on_the_way(
-    vehicle: Standing,
+    vehicle: PlacedVehicle,
     schedule: &Schedule,
     params: &Params,
     request: &Request,
@@ -326,7 +326,7 @@ fn best_on_the_way(
 
 /// The best of an offer and those of a vehicle whose pickup goes after stop i, where its list leaves that stop then.
 fn best_after_stop(
-    vehicle: Standing,
+    vehicle: PlacedVehicle,
     schedule: &Schedule,
     front: &Front,
     params: &Params,
@@ -372,7 +372,7 @@ fn best_after_stop(
 /// The best offer of a vehicle from a front, over all pairs of places, by the distances of the front's node and of each stop's. None
 /// where no pair is feasible.
 pub fn best_from(
-    vehicle: Standing,
+    vehicle: PlacedVehicle,
     schedule: &Schedule,
     front: &Front,
     params: &Params,

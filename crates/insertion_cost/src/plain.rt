@@ -17,7 +17,7 @@ use crate::candidates::{Candidate, Candidates, Floor};
 use crate::decision::{Assigned, Decision};
 use crate::node_ways::NodeWays;
 use crate::offer::{Offer, first_of_two};
-use crate::pairs::{Standing, best_from};
+use crate::pairs::{PlacedVehicle, best_from};
 use crate::pricer::Pricer;
 use crate::searches::{Searches, gather};
 use plain_search::least_walk;
@@ -28,7 +28,7 @@ use stop_schedule::{FleetView, Front, Insertion, NewWalks, Params, Request, Sche
 
 /// The best offer of a vehicle from a front, by whole searches. None where no pair is feasible.
 fn best_by_searches(
-    vehicle: Standing,
+    vehicle: PlacedVehicle,
     schedule: &Schedule,
     front: &Front,
     params: &Params,
@@ -71,7 +71,7 @@ fn entry_at<F: FleetView>(
 {
     let schedule = view.schedule(place);
     let front = schedule.front(view.clock());
-    let vehicle = Standing {
+    let vehicle = PlacedVehicle {
         no: view.no(place),
         place,
     };
