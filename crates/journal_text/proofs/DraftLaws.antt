@@ -1,22 +1,17 @@
-use Rattle.std.proofs.Common.{◌≡◌, ◌⊎◌, inl, inr, ℕ, zero, suc, ◌+◌, ◌-◌, ◌%◌, ◌^◌, ◌≤◌, ◌<◌, ◌==◌, Bool, true, false, not, ◌&&◌, ◌||◌, cond, List, [], ◌∷◌, ◌++◌, length, flat_map, Option, Some, None, refl, sym, ap, ◌∙◌, subst, append_assoc, append-nil, length-append, arith, codes, eq-eqb, add-zero}
+use Rattle.std.proofs.Common.{◌≡◌, ◌⊎◌, inl, inr, ℕ, zero, suc, ◌+◌, ◌^◌, ◌≤◌, ◌<◌, ◌==◌, Bool, true, false, ◌&&◌, cond, List, [], ◌∷◌, ◌++◌, length, flat_map, Option, Some, None, refl, sym, ap, ◌∙◌, subst, append-nil, arith, codes, add-zero}
 use Rattle.std.proofs.lemmas.Bool.Decides.{nat_tests}
 use Rattle.std.proofs.lemmas.List.Folds.{list_all-append}
 use Rattle.std.specs.Prelude.{nat_le, nat_lt}
 use Rattle.std.specs.List.{list_all}
-use Rattle.std.specs.Fmt.{decimal}
 use Rattle.road_graph.specs.declared.road.NodeNo.{NodeNo}
-use Rattle.road_graph.specs.Roads.{node}
 use Rattle.plain_search.specs.declared.potential.Potential.{Potential}
-use Rattle.ride_base.specs.declared.numbers.RequestNo.{RequestNo}
 use Rattle.ride_base.specs.declared.numbers.VehicleNo.{VehicleNo}
 use Rattle.stop_advance.specs.declared.served.Served.{Served}
 use Rattle.stop_schedule.specs.declared.request.Request.{Request}
 use Rattle.stop_schedule.specs.declared.stop.Insertion.{Insertion}
 use Rattle.board_core.specs.declared.entry.Reason.{Reason}
 use Rattle.board_core.specs.declared.entry.CancelReason.{CancelReason}
-use Rattle.board_core.specs.declared.entry.CancelReason.TheVariants as why
 use Rattle.board_core.specs.declared.entry.Submitted.TheVariants.{Accepted, Refused}
-use Rattle.journal_text.specs.declared.heads.OfferHead.{OfferHead}
 use Rattle.journal_text.specs.declared.heads.RemovalHead.{RemovalHead}
 use Rattle.journal_text.specs.declared.heads.Head.{Head}
 use Rattle.journal_text.specs.declared.heads.Head.TheVariants.{Ride, Claim, Back, Offer, Nobody, Clock, Behind, Asked, Declined, Removal, Shut}
@@ -28,13 +23,13 @@ use Rattle.journal_text.specs.Certificates.{numbered_lines}
 use Rattle.journal_text.specs.Forms.{is_32, is_number, largest_number, largest_32, largest_position, latest_clock, is_walk_text, is_potential_text}
 use Rattle.journal_text.specs.LineParts.{and_then}
 use Rattle.journal_text.specs.LineHeads.{head_in}
-use Rattle.journal_text.specs.Drafts.{most_walks_of, has_walks, has_proof_or_none, is_whole_with, is_whole_draft, is_none_listed, is_clock, changed_leg_of, joined_leg_of, leg_of, with_head, next_number_with, wants_direct_with, draft_step, new_draft, draft_of_line}
+use Rattle.journal_text.specs.Drafts.{most_walks_of, has_walks, is_none_listed, is_clock, changed_leg_of, joined_leg_of, leg_of, with_head, next_number_with, wants_direct_with, draft_step, new_draft, draft_of_line}
 use Rattle.journal_text.specs.DraftTexts.{is_offer_head, is_removal_head, is_head, head_text, leg_at, walks_from, first_number, direct_text, draft_text, is_commit, most_potentials_of, is_direct_draft, IsDraft}
-use Rattle.journal_text.proofs.Spelling.{both, both_hold, le_holds, le_from, is_clean}
+use Rattle.journal_text.proofs.Spelling.{both, both_hold, le_from, is_clean}
 use Rattle.journal_text.proofs.HeadsRead.{first_was}
 use Rattle.journal_text.proofs.PrintedLines.{claim_read, back_read, nobody_read, asked_read, clock_read, offer_read, request_line_read, refusal_read, cancel_refusal_read, behind_read, removal_read}
-use Rattle.journal_text.proofs.DraftSteps.{bare_is_draft, step_was, WasStep, most_listed_few}
-use Rattle.journal_text.proofs.DraftReads.{ended, drafted, drafted-append, Goes, goes_none, goes_line, goes_on, goes_text, goes_served, goes_walks, goes_potentials, goes_direct, ended-append}
+use Rattle.journal_text.proofs.DraftSteps.{bare_is_draft, step_was, most_listed_few}
+use Rattle.journal_text.proofs.DraftReads.{ended, drafted, drafted-append, Goes, goes_none, goes_line, goes_served, goes_walks, goes_potentials, goes_direct, ended-append}
 
 -- The lines of a group as far as it was read are read again as that group.
 

@@ -1,10 +1,9 @@
-use Rattle.std.proofs.Common.{◌≡◌, ℕ, zero, suc, ◌+◌, ◌-◌, ◌%◌, ◌^◌, ◌≤◌, ◌<◌, ◌==◌, Bool, true, false, not, ◌&&◌, cond, List, [], ◌∷◌, ◌++◌, length, flat_map, Option, Some, None, refl, sym, ap, ◌∙◌, subst, append_assoc, append-nil, length-append, arith, codes, eq-eqb}
+use Rattle.std.proofs.Common.{◌≡◌, ℕ, zero, suc, ◌+◌, ◌-◌, ◌%◌, ◌^◌, ◌≤◌, ◌<◌, ◌==◌, Bool, true, ◌&&◌, cond, List, [], ◌∷◌, ◌++◌, length, flat_map, Option, Some, None, refl, sym, ap, ◌∙◌, subst, append_assoc, append-nil, length-append, arith, codes, eq-eqb}
 use Rattle.std.proofs.lemmas.Bool.Decides.{nat_tests}
 use Rattle.std.proofs.lemmas.List.Folds.{list_all-append}
 use Rattle.std.proofs.Math.Nat.{add-mod_right}
 use Rattle.std.specs.Prelude.{nat_le, nat_lt}
 use Rattle.std.specs.List.{list_all}
-use Rattle.std.specs.Str.{bytes_eq}
 use Rattle.std.specs.Fmt.{decimal}
 use Rattle.road_graph.specs.declared.road.NodeNo.{NodeNo}
 use Rattle.plain_search.specs.declared.potential.Potential.{Potential}
@@ -13,19 +12,19 @@ use Rattle.stop_advance.specs.declared.served.Served.{Served}
 use Rattle.stop_schedule.specs.declared.stop.StopKind.{StopKind}
 use Rattle.stop_schedule.specs.declared.stop.StopKind.TheVariants.{Pickup, Dropoff}
 use Rattle.journal_text.specs.declared.heads.Head.{Head}
-use Rattle.journal_text.specs.declared.heads.Head.TheVariants.{Ride, Claim, Back, Offer, Nobody, Clock, Behind, Asked, Declined, Removal, Shut}
+use Rattle.journal_text.specs.declared.heads.Head.TheVariants.{Removal}
 use Rattle.journal_text.specs.declared.draft.Direct.{Direct}
 use Rattle.journal_text.specs.declared.draft.Direct.TheVariants.{Ahead, Absent, Walk}
 use Rattle.journal_text.specs.declared.draft.Draft.{Draft}
-use Rattle.journal_text.specs.Groups.{spaced, served_line, walk_lines, nodes_after, kind_text}
+use Rattle.journal_text.specs.Groups.{spaced, served_line, walk_lines, kind_text}
 use Rattle.journal_text.specs.Certificates.{numbered_lines, potential_lines, direct_lines, rest_text, pairs_after}
 use Rattle.journal_text.specs.TextGroups.{is_full_walk, last_walk}
 use Rattle.journal_text.specs.Forms.{is_32, is_number, largest_value, most_nodes, is_served_text, is_walk_text, is_potential_text, is_rest_text, is_direct_text, do_rise, rise_above}
-use Rattle.journal_text.specs.LineParts.{and_then, number_ahead}
-use Rattle.journal_text.specs.LineRuns.{nodes_of_line, pairs_of_line, is_above}
+use Rattle.journal_text.specs.LineParts.{and_then}
+use Rattle.journal_text.specs.LineRuns.{nodes_of_line, pairs_of_line}
 use Rattle.journal_text.specs.LineHeads.{served_in}
-use Rattle.journal_text.specs.Drafts.{most_walks_of, has_walks, is_none_listed, is_clock, leg_of, serve_step, next_leg_of, walk_step, behind_the, rest_at_end, next_number_with, potential_step, replaced_last, lengthened, open_leg_of, longer_step, last_listed, last_node_of, are_pairs_full_in, with_pairs, is_ahead, pairs_step, wants_direct_with, with_direct, walk_direct, direct_in, direct_step, longer_direct_in, longer_direct_step, draft_step}
-use Rattle.journal_text.specs.DraftTexts.{leg_at, walks_from, first_number, is_commit}
+use Rattle.journal_text.specs.Drafts.{most_walks_of, has_walks, is_none_listed, is_clock, leg_of, behind_the, rest_at_end, next_number_with, replaced_last, lengthened, last_listed, last_node_of, are_pairs_full_in, with_pairs, is_ahead, wants_direct_with, with_direct, walk_direct, direct_in, draft_step}
+use Rattle.journal_text.specs.DraftTexts.{leg_at, walks_from, first_number}
 use Rattle.journal_text.proofs.Numbers.{begins_no_digit}
 use Rattle.journal_text.proofs.Spelling.{both, both_hold, le_holds, le_from, is_clean, clean_append, clean_decimal, spaced_append}
 use Rattle.journal_text.proofs.LongLines.{numbers_of_items, numbers_of_items-append, node_number, pair_numbers, after, nodes_are, direct_is, pairs_are}

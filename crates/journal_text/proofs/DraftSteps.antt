@@ -1,4 +1,4 @@
-use Rattle.std.proofs.Common.{◌≡◌, ◌⊎◌, inl, inr, ℕ, zero, suc, ◌+◌, ◌-◌, ◌%◌, ◌^◌, ◌≤◌, ◌<◌, ◌==◌, Bool, true, false, not, ◌&&◌, cond, List, [], ◌∷◌, ◌++◌, length, flat_map, Option, Some, None, refl, sym, ap, ◌∙◌, subst, append_assoc, append-nil, length-append, arith, codes}
+use Rattle.std.proofs.Common.{◌≡◌, ◌⊎◌, inl, inr, ℕ, zero, suc, ◌+◌, ◌-◌, ◌%◌, ◌^◌, ◌≤◌, ◌<◌, ◌==◌, Bool, true, false, ◌&&◌, cond, List, [], ◌∷◌, ◌++◌, length, flat_map, Option, Some, None, refl, sym, ap, ◌∙◌, subst, append_assoc, append-nil, length-append, arith, codes}
 use Rattle.std.proofs.lemmas.Bool.Decides.{nat_tests}
 use Rattle.std.proofs.lemmas.List.Concat.{flat_map-append}
 use Rattle.std.proofs.lemmas.Slice.Eq.{bytes_eq-Decides}
@@ -9,34 +9,31 @@ use Rattle.std.specs.Str.{bytes_eq}
 use Rattle.std.specs.Fmt.{decimal}
 use Rattle.road_graph.specs.declared.road.NodeNo.{NodeNo}
 use Rattle.plain_search.specs.declared.potential.Potential.{Potential}
-use Rattle.ride_base.specs.declared.numbers.RequestNo.{RequestNo}
 use Rattle.ride_base.specs.declared.numbers.VehicleNo.{VehicleNo}
 use Rattle.stop_advance.specs.declared.served.Served.{Served}
-use Rattle.stop_schedule.specs.declared.request.Request.{Request}
 use Rattle.stop_schedule.specs.declared.stop.Insertion.{Insertion}
 use Rattle.board_core.specs.declared.entry.Reason.{Reason}
 use Rattle.board_core.specs.declared.entry.CancelReason.{CancelReason}
 use Rattle.board_core.specs.declared.entry.Submitted.TheVariants.{Accepted, Refused}
-use Rattle.journal_text.specs.declared.heads.OfferHead.{OfferHead}
 use Rattle.journal_text.specs.declared.heads.RemovalHead.{RemovalHead}
 use Rattle.journal_text.specs.declared.heads.Head.{Head}
-use Rattle.journal_text.specs.declared.heads.Head.TheVariants.{Ride, Claim, Back, Offer, Nobody, Clock, Behind, Asked, Declined, Removal, Shut}
+use Rattle.journal_text.specs.declared.heads.Head.TheVariants.{Ride, Offer, Nobody, Clock, Behind, Asked, Declined, Removal}
 use Rattle.journal_text.specs.declared.draft.Direct.{Direct}
 use Rattle.journal_text.specs.declared.draft.Direct.TheVariants.{Ahead, Absent, Walk}
 use Rattle.journal_text.specs.declared.draft.Draft.{Draft}
-use Rattle.journal_text.specs.Groups.{spaced, ride_line, refusal_line, served_line, walk_lines, reason_text, cancel_reason_text, nodes_after}
-use Rattle.journal_text.specs.Certificates.{numbered_lines, potential_lines, direct_lines, direct_after, rest_text, pairs_after}
+use Rattle.journal_text.specs.Groups.{spaced, ride_line, refusal_line, served_line, walk_lines, reason_text, nodes_after}
+use Rattle.journal_text.specs.Certificates.{numbered_lines, potential_lines, direct_lines, rest_text, pairs_after}
 use Rattle.journal_text.specs.TextGroups.{is_full_walk, last_walk, is_field_end}
-use Rattle.journal_text.specs.Forms.{is_32, is_number, largest_position, largest_value, most_nodes, latest_clock, is_served_text, is_walk_text, is_potential_text, is_rest_text, do_rise, rise_above}
+use Rattle.journal_text.specs.Forms.{is_32, is_number, largest_position, most_nodes, latest_clock, is_served_text, is_walk_text, is_potential_text, is_rest_text, do_rise, rise_above}
 use Rattle.journal_text.specs.LineParts.{and_then}
-use Rattle.journal_text.specs.LineRuns.{nodes_of_line, pairs_of_line, is_above}
+use Rattle.journal_text.specs.LineRuns.{nodes_of_line, pairs_of_line}
 use Rattle.journal_text.specs.LineHeads.{head_in, refusal_in, cancel_refusal_in, behind_in, removal_in, served_in}
-use Rattle.journal_text.specs.Drafts.{most_walks_of, has_walks, is_none_listed, is_clock, changed_leg_of, joined_leg_of, leg_of, with_head, refused_head, removed_head, refuse_step, remove_step, serve_step, next_leg_of, walk_step, behind_the, rest_at_end, next_number_with, potential_step, replaced_last, lengthened, open_leg_of, longer_step, last_listed, last_node_of, are_pairs_full_in, with_pairs, is_ahead, pairs_step, wants_direct_with, with_direct, walk_direct, direct_in, direct_step, longer_direct_in, longer_direct_step, lettered_step, draft_step, new_draft, draft_of_line}
+use Rattle.journal_text.specs.Drafts.{most_walks_of, has_walks, is_none_listed, is_clock, changed_leg_of, joined_leg_of, leg_of, with_head, refused_head, removed_head, refuse_step, remove_step, serve_step, next_leg_of, walk_step, behind_the, rest_at_end, next_number_with, potential_step, replaced_last, lengthened, open_leg_of, longer_step, last_listed, last_node_of, are_pairs_full_in, with_pairs, is_ahead, pairs_step, wants_direct_with, with_direct, walk_direct, direct_in, direct_step, longer_direct_in, longer_direct_step, draft_step, new_draft, draft_of_line}
 use Rattle.journal_text.specs.DraftTexts.{is_offer_head, is_removal_head, is_head, head_text, leg_at, walks_from, first_number, direct_text, draft_text, is_commit, most_potentials_of, is_direct_draft, IsDraft}
-use Rattle.journal_text.proofs.Spelling.{both, both_hold, le_holds, le_from, same_value, is_clean, clean_append, clean_decimal, short_decimal, IsSpaced, was_then, was_if}
-use Rattle.journal_text.proofs.LongLines.{length-nodes, length-pairs, numbers_of_items, node_number, pair_numbers, after, nodes_are, direct_is, pairs_are, after_short, after_more, full_64, full_32}
+use Rattle.journal_text.proofs.Spelling.{both, both_hold, le_holds, le_from, same_value, is_clean, clean_append, clean_decimal, short_decimal, was_then, was_if}
+use Rattle.journal_text.proofs.LongLines.{length-nodes, length-pairs, numbers_of_items, node_number, pair_numbers, nodes_are, direct_is, pairs_are, after_short, after_more, full_64, full_32}
 use Rattle.journal_text.proofs.HeadsRead.{first_was}
-use Rattle.journal_text.proofs.PartsRead.{is_node_text, is_pair_text, WasLine, refusal_was, cancel_refusal_was, behind_was, removal_was, served_was, the_number_was, rest_was, WereNodes, nodes_were, rise_from, WerePairs, pairs_were}
+use Rattle.journal_text.proofs.PartsRead.{is_node_text, is_pair_text, WasLine, refusal_was, cancel_refusal_was, behind_was, removal_was, served_was, the_number_was, rest_was, nodes_were, rise_from, pairs_were}
 
 -- the first field of a line is one letter
 abbrev pub has_letter : List ℕ → Bool

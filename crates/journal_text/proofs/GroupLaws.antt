@@ -1,4 +1,4 @@
-use Rattle.std.proofs.Common.{◌≡◌, ◌⊎◌, inl, inr, ℕ, zero, suc, ◌+◌, ◌-◌, ◌%◌, ◌^◌, ◌≤◌, ◌<◌, ◌==◌, Bool, true, false, not, ◌&&◌, ◌||◌, cond, List, [], ◌∷◌, ◌++◌, length, flat_map, Option, Some, None, refl, sym, ap, ap₂, ◌∙◌, subst, append_assoc, append-nil, length-append, arith, codes, eq-eqb}
+use Rattle.std.proofs.Common.{◌≡◌, ℕ, zero, suc, ◌+◌, ◌-◌, ◌%◌, ◌≤◌, ◌==◌, Bool, true, false, ◌&&◌, ◌||◌, cond, List, [], ◌∷◌, ◌++◌, length, flat_map, Option, Some, None, refl, sym, ap, ap₂, ◌∙◌, subst, append_assoc, append-nil, arith, eq-eqb}
 use Rattle.std.proofs.lemmas.Bool.Decides.{nat_tests}
 use Rattle.std.specs.Prelude.{nat_le, nat_lt}
 use Rattle.std.specs.List.{list_all}
@@ -7,9 +7,6 @@ use Rattle.plain_search.specs.declared.potential.Potential.{Potential}
 use Rattle.ride_base.specs.declared.numbers.RequestNo.{RequestNo}
 use Rattle.ride_base.specs.declared.numbers.VehicleNo.{VehicleNo}
 use Rattle.stop_advance.specs.declared.served.Served.{Served}
-use Rattle.stop_schedule.specs.declared.request.Request.{Request}
-use Rattle.stop_schedule.specs.declared.stop.Insertion.{Insertion}
-use Rattle.board_core.specs.declared.entry.Submitted.{Submitted}
 use Rattle.board_core.specs.declared.entry.Submitted.TheVariants.{Accepted, Refused}
 use Rattle.board_core.specs.declared.entry.Advanced.TheVariants.{Moved, Back as Held}
 use Rattle.journal_text.specs.declared.certificate.Certificate.{Certificate}
@@ -28,12 +25,12 @@ use Rattle.journal_text.specs.declared.draft.Direct.{Direct}
 use Rattle.journal_text.specs.declared.draft.Direct.TheVariants.{Ahead, Absent, Walk}
 use Rattle.journal_text.specs.declared.draft.Draft.{Draft}
 use Rattle.journal_text.specs.Groups.{walk_lines, walks_lines, changed_legs, joined_legs, served_line, numbers_line}
-use Rattle.journal_text.specs.Certificates.{certificate_lines, potential_lines, numbered_lines, direct_lines, joins_lines}
-use Rattle.journal_text.specs.TextGroups.{group_text, goes_on_with, joins_go_on, is_full_walk, last_walk, proof_lines}
+use Rattle.journal_text.specs.Certificates.{certificate_lines, potential_lines, numbered_lines, direct_lines}
+use Rattle.journal_text.specs.TextGroups.{group_text, goes_on_with, joins_go_on, is_full_walk, last_walk}
 use Rattle.journal_text.specs.Printable.{most_changed, most_joined}
-use Rattle.journal_text.specs.Forms.{is_number, is_32, largest_position, latest_clock, are_so_many, is_ride_text, is_offer_text, is_moved_text, is_served_text, is_removal_text, is_walk_text, is_potential_text, is_direct_text, is_certificate_text, is_proof_text, is_none, is_empty, is_entry_text, is_in_form}
-use Rattle.journal_text.specs.Drafts.{most_walks_of, has_walks, has_proof_or_none, is_whole_with, is_whole_draft, is_none_listed, is_clock, changed_leg_of, joined_leg_of, last_listed, are_pairs_full_in, new_draft, goes_on_in}
-use Rattle.journal_text.specs.DraftTexts.{is_offer_head, is_removal_head, is_head, head_text, leg_at, walks_from, first_number, direct_text, draft_text, is_commit, most_potentials_of, is_direct_draft, IsDraft, offer_of, removal_of, entry_of, certificate_of, proof_of, joins_of, group_of}
+use Rattle.journal_text.specs.Forms.{is_number, is_32, largest_position, latest_clock, are_so_many, is_ride_text, is_offer_text, is_served_text, is_removal_text, is_walk_text, is_potential_text, is_direct_text, is_certificate_text, is_proof_text, is_none, is_empty, is_entry_text, is_in_form}
+use Rattle.journal_text.specs.Drafts.{most_walks_of, has_proof_or_none, is_whole_with, is_whole_draft, is_clock, last_listed, new_draft, goes_on_in}
+use Rattle.journal_text.specs.DraftTexts.{is_offer_head, is_removal_head, is_head, head_text, leg_at, walks_from, draft_text, is_commit, most_potentials_of, is_direct_draft, IsDraft, offer_of, removal_of, entry_of, proof_of, joins_of, group_of}
 use Rattle.journal_text.proofs.Spelling.{both, both_hold, le_holds, le_from}
 use Rattle.journal_text.proofs.DraftSteps.{no_length, not_direct, none_listed, bare_text, bare_is_draft}
 use Rattle.journal_text.proofs.DraftReads.{direct_of}

@@ -1,22 +1,17 @@
-use Rattle.std.proofs.Common.{◌≡◌, ℕ, zero, suc, ◌+◌, ◌*◌, ◌-◌, ◌^◌, ◌≤◌, ◌<◌, ◌==◌, Bool, true, false, not, ◌&&◌, cond, List, [], ◌∷◌, ◌++◌, length, Option, Some, None, refl, sym, ap, ◌∙◌, subst, append_assoc, append-nil, arith, eqb-true}
+use Rattle.std.proofs.Common.{◌≡◌, ℕ, ◌≤◌, ◌==◌, Bool, true, false, ◌&&◌, cond, List, [], ◌∷◌, ◌++◌, length, Option, Some, None, refl, sym, ap, ◌∙◌, subst, append-nil, arith}
 use Rattle.std.proofs.lemmas.Bool.Decides.{nat_tests}
 use Rattle.std.specs.Prelude.{nat_le, nat_lt}
 use Rattle.std.specs.Fmt.{decimal}
 use Rattle.ride_base.specs.declared.numbers.RequestNo.{RequestNo}
-use Rattle.stop_schedule.specs.declared.request.Request.{Request}
 use Rattle.stop_schedule.specs.declared.stop.Insertion.{Insertion}
 use Rattle.board_core.specs.declared.entry.Submitted.TheVariants.{Accepted, Refused}
-use Rattle.journal_text.specs.declared.heads.OfferHead.{OfferHead}
-use Rattle.journal_text.specs.declared.heads.RemovalHead.{RemovalHead}
 use Rattle.journal_text.specs.declared.heads.Head.{Head}
 use Rattle.journal_text.specs.declared.heads.Head.TheVariants.{Ride, Claim, Back, Offer, Nobody, Clock, Behind, Asked, Declined, Removal, Shut}
-use Rattle.journal_text.specs.Groups.{spaced, numbers_line, ride_line, refusal_line, reason_text, cancel_reason_text, moved_lines, submitted_lines}
-use Rattle.board_core.specs.declared.entry.Advanced.TheVariants.{Moved, Back as Held}
-use Rattle.journal_text.specs.Forms.{largest_number, latest_clock, largest_32, largest_position, is_number, is_32, is_ride_text}
-use Rattle.journal_text.specs.LineParts.{and_then, number_ahead}
-use Rattle.journal_text.specs.LineHeads.{at_end, request_at_end, ride_in, claim_in, offer_in, clock_in, head_in, lettered_head, with_request, spaces_at_end, place_ahead, prices_at_end}
-use Rattle.journal_text.specs.DraftTexts.{is_offer_head, is_head, head_text}
-use Rattle.journal_text.proofs.Spelling.{both, both_hold, le_holds, le_from, same_value, is_clean, IsSpaced, spaced_end, spaced_more, was_then, WasNumber, was_number, was_end, was_if, was_unless}
+use Rattle.journal_text.specs.Groups.{numbers_line}
+use Rattle.journal_text.specs.Forms.{largest_number, latest_clock, largest_32, largest_position, is_number, is_32}
+use Rattle.journal_text.specs.LineHeads.{at_end, request_at_end, ride_in, claim_in, offer_in, clock_in, head_in, with_request, spaces_at_end, place_ahead, prices_at_end}
+use Rattle.journal_text.specs.DraftTexts.{is_head, head_text}
+use Rattle.journal_text.proofs.Spelling.{both_hold, le_holds, le_from, same_value, is_clean, IsSpaced, spaced_end, spaced_more, was_then, was_number, was_end, was_unless}
 
 -- The first lines of groups that were read, and the heads that they come to.
 

@@ -1,5 +1,4 @@
-use Rattle.std.proofs.Common.{◌≡◌, ◌⊎◌, inl, inr, ℕ, zero, suc, ◌+◌, ◌-◌, ◌≤◌, ◌<◌, Bool, true, false, not, cond, List, [], ◌∷◌, ◌++◌, length, map, drop, Option, Some, None, refl, sym, ap, ◌∙◌, subst, append_assoc, append-nil, arith}
-use Rattle.std.specs.List.{list_all}
+use Rattle.std.proofs.Common.{◌≡◌, ◌⊎◌, inl, inr, ℕ, ◌+◌, ◌-◌, Bool, true, false, not, List, [], ◌∷◌, ◌++◌, length, map, drop, Option, Some, None, refl, sym, ap, ◌∙◌, append_assoc, arith}
 use Rattle.ride_base.specs.Pieces.{Piece, Whole, TooLong, TooLarge, ended_lines}
 use Rattle.journal_text.specs.declared.groups.Group.{Group}
 use Rattle.journal_text.specs.declared.text.TextEntry.TheVariants as text
@@ -11,10 +10,10 @@ use Rattle.journal_text.specs.Journals.{is_over, IsNextGroup, BeginsAGroup, IsBa
 use Rattle.journal_text.specs.LineParts.{and_then}
 use Rattle.journal_text.specs.LineHeads.{head_in}
 use Rattle.journal_text.specs.Drafts.{is_whole_draft, draft_step, new_draft, draft_of_line}
-use Rattle.journal_text.specs.DraftTexts.{draft_text, IsDraft, group_of}
+use Rattle.journal_text.specs.DraftTexts.{IsDraft, group_of}
 use Rattle.journal_text.proofs.Spelling.{was_then, same_value}
-use Rattle.journal_text.proofs.DraftReads.{ended, drafted, drafted-append}
-use Rattle.journal_text.proofs.GroupLaws.{IsWhole, whole_law, IsGroupDraft, group_draft}
+use Rattle.journal_text.proofs.DraftReads.{drafted, drafted-append}
+use Rattle.journal_text.proofs.GroupLaws.{whole_law, group_draft}
 use Rattle.journal_text.proofs.ReadLaws.{draft_lines, read_of, OwnLines, own_lines, own_read, whole_lines, step_goes_on, ended_all}
 use Rattle.journal_text.proofs.WholeGroups.{Completes, completes}
 

@@ -16,3 +16,7 @@ pub mod JournalLaws
 pub mod PrintedEntries
 pub mod RoundTrips
 pub mod TextPieces
+pub mod LastItems
+pub mod LinesAhead
+pub mod HeldLines
+pub mod NextGroup

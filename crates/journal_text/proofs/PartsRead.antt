@@ -1,4 +1,4 @@
-use Rattle.std.proofs.Common.{◌≡◌, ℕ, zero, suc, ◌+◌, ◌-◌, ◌^◌, ◌≤◌, ◌<◌, ◌==◌, Bool, true, false, not, ◌&&◌, cond, List, [], ◌∷◌, ◌++◌, length, Option, Some, None, refl, sym, ap, ◌∙◌, subst, append_assoc, append-nil, length-append, arith, codes, eqb-true}
+use Rattle.std.proofs.Common.{◌≡◌, ℕ, zero, suc, ◌+◌, ◌^◌, ◌≤◌, ◌<◌, ◌==◌, Bool, true, false, ◌&&◌, cond, List, [], ◌∷◌, ◌++◌, length, Option, Some, None, refl, sym, ap, ◌∙◌, subst, append_assoc, append-nil, length-append, arith, codes}
 use Rattle.std.proofs.lemmas.Bool.Decides.{nat_tests}
 use Rattle.std.proofs.lemmas.Slice.Eq.{bytes_eq-Decides}
 use Rattle.std.specs.Prelude.{nat_le, nat_lt}
@@ -20,12 +20,12 @@ use Rattle.journal_text.specs.declared.heads.RemovalHead.{RemovalHead}
 use Rattle.journal_text.specs.Groups.{spaced, numbers_line, served_line, refusal_line, reason_text, cancel_reason_text, kind_text}
 use Rattle.journal_text.specs.Certificates.{rest_text}
 use Rattle.journal_text.specs.TextGroups.{is_field_end}
-use Rattle.journal_text.specs.Forms.{largest_number, latest_clock, largest_32, largest_position, largest_value, is_number, is_32, is_served_text, is_rest_text, rise_above}
+use Rattle.journal_text.specs.Forms.{largest_number, latest_clock, largest_32, largest_position, largest_value, is_number, is_32, is_served_text, is_rest_text}
 use Rattle.journal_text.specs.LineParts.{and_then, number_ahead, behind_space_of}
 use Rattle.journal_text.specs.LineRuns.{in_front, if_any, nodes_ahead, nodes_of_line, is_above, pairs_ahead, pairs_of_line}
 use Rattle.journal_text.specs.LineHeads.{at_end, behind_word, behind_in, reason_in, cancel_reason_in, behind_request, word_for, refusal_in, cancel_refusal_in, positions_at_end, removal_in, kind_in, kind_in_front, kind_ahead, stay_at_end, served_in}
 use Rattle.journal_text.specs.Drafts.{behind_the, rest_at_end}
-use Rattle.journal_text.proofs.Spelling.{both, both_hold, le_holds, le_from, same_value, is_clean, clean_append, clean_decimal, short_decimal, IsSpaced, spaced_end, spaced_more, was_then, WasNumber, was_number, was_end, was_if, was_unless, was_space}
+use Rattle.journal_text.proofs.Spelling.{both, both_hold, le_holds, same_value, is_clean, clean_append, clean_decimal, short_decimal, IsSpaced, spaced_end, spaced_more, was_then, was_number, was_end, was_if, was_space}
 use Rattle.journal_text.proofs.LongLines.{numbers_of_items, node_number, pair_numbers}
 use Rattle.journal_text.specs.DraftTexts.{is_removal_head}
 

@@ -1,9 +1,8 @@
-use Rattle.std.proofs.Common.{◌≡◌, ℕ, ◌+◌, ◌≤◌, ◌<◌, ◌==◌, Bool, true, cond, ◌&&◌, List, length, map, Option, None, [], refl, sym, ap, ◌∙◌, subst, arith}
+use Rattle.std.proofs.Common.{◌≡◌, ℕ, ◌+◌, ◌≤◌, true, ◌&&◌, List, length, None, [], refl, arith}
 use Rattle.std.proofs.lemmas.Bool.Decides.{nat_tests}
 use Rattle.std.proofs.lemmas.List.{length-map}
 use Rattle.std.specs.Prelude.{nat_le, nat_lt}
 use Rattle.std.specs.List.{list_all}
-use Rattle.road_graph.specs.declared.road.NodeNo.{NodeNo}
 use Rattle.road_graph.specs.Paths.{Path}
 use Rattle.insertion_cost.specs.declared.decision.Assigned.{Assigned}
 use Rattle.insertion_cost.specs.declared.decision.Decision.TheVariants.{Assigned as IsAssigned, Nobody}
@@ -14,8 +13,8 @@ use Rattle.board_core.specs.declared.entry.Entry.{Entry}
 use Rattle.board_core.specs.declared.entry.Entry.TheVariants.{Submit, Claim, Back, Commit, Advance, Cancel, Shut}
 use Rattle.journal_text.specs.TextEntries.{nodes_of, text_offer, text_removal, text_entry}
 use Rattle.journal_text.specs.Printable.{most_changed, most_joined, IsPrintable, IsPrintableOffer, IsPrintableRemoval}
-use Rattle.journal_text.specs.Forms.{is_number, is_32, largest_position, latest_clock, is_ride_text, is_walk_text, is_offer_text, is_removal_text, is_moved_text, is_in_form, are_within}
-use Rattle.journal_text.proofs.Spelling.{both, both_hold, le_holds, le_from}
+use Rattle.journal_text.specs.Forms.{is_number, is_32, largest_position, latest_clock, is_walk_text, is_offer_text, is_removal_text, is_in_form, are_within}
+use Rattle.journal_text.proofs.Spelling.{both, both_hold, le_holds}
 
 -- What can be printed is in form where its numbers and walks are within the limits.
 

@@ -1,4 +1,4 @@
-use Rattle.std.proofs.Common.{◌≡◌, ℕ, zero, suc, ◌+◌, ◌-◌, ◌^◌, ◌≤◌, ◌<◌, ◌==◌, Bool, true, false, not, ◌&&◌, cond, List, [], ◌∷◌, ◌++◌, length, get_or, drop, map, Option, Some, None, refl, sym, ap, ◌∙◌, append-nil, append_assoc, arith, codes, eq-eqb, eqb-true}
+use Rattle.std.proofs.Common.{◌≡◌, ℕ, zero, suc, ◌^◌, ◌≤◌, ◌<◌, ◌==◌, Bool, true, false, ◌&&◌, cond, List, [], ◌∷◌, ◌++◌, length, get_or, drop, Option, Some, None, refl, sym, ap, ◌∙◌, append-nil, append_assoc, arith, codes, eq-eqb, eqb-true}
 use Rattle.std.proofs.lemmas.Slice.Eq.{bytes_eq-Decides}
 use Rattle.std.proofs.lemmas.Fmt.{decimal_nonempty, digits_decimal}
 use Rattle.std.specs.List.{list_all}
@@ -32,11 +32,11 @@ use Rattle.ride_base.specs.declared.numbers.VehicleNo.{VehicleNo}
 use Rattle.stop_schedule.specs.declared.request.Request.{Request}
 use Rattle.stop_schedule.specs.declared.stop.Insertion.{Insertion}
 use Rattle.board_core.specs.declared.entry.Submitted.TheVariants.{Accepted}
-use Rattle.journal_text.specs.declared.heads.Head.TheVariants.{Ride, Claim, Back, Offer, Nobody, Clock, Asked, Shut}
+use Rattle.journal_text.specs.declared.heads.Head.TheVariants.{Ride, Claim, Back, Offer, Nobody, Clock, Asked}
 use Rattle.journal_text.specs.Groups.{spaced}
 use Rattle.journal_text.specs.Forms.{largest_number, latest_clock, largest_32, largest_position}
 use Rattle.journal_text.specs.LineParts.{and_then, number_ahead}
-use Rattle.journal_text.specs.LineHeads.{at_end, request_at_end, claim_in, clock_in, head_in, with_request, spaces_at_end, place_ahead, prices_at_end}
+use Rattle.journal_text.specs.LineHeads.{at_end, request_at_end, head_in, with_request, spaces_at_end, place_ahead, prices_at_end}
 use Rattle.journal_text.proofs.Numbers.{numerals, begins_no_digit, printed_number}
 
 -- Lines of numbers that are printed are read again.

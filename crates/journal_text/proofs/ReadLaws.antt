@@ -1,37 +1,29 @@
-use Rattle.std.proofs.Common.{◌≡◌, ◌⊎◌, inl, inr, ℕ, zero, suc, ◌+◌, ◌-◌, ◌%◌, ◌≤◌, ◌<◌, ◌==◌, Bool, true, false, not, ◌&&◌, ◌||◌, cond, List, [], ◌∷◌, ◌++◌, length, map, Option, Some, None, refl, sym, ap, ◌∙◌, subst, append_assoc, append-nil, length-append, arith, eq-eqb}
+use Rattle.std.proofs.Common.{◌≡◌, ℕ, zero, suc, ◌+◌, ◌-◌, ◌%◌, ◌≤◌, ◌==◌, Bool, true, false, ◌&&◌, ◌||◌, cond, List, [], ◌∷◌, ◌++◌, length, Option, Some, None, refl, sym, ap, ◌∙◌, subst, append_assoc, append-nil, arith}
 use Rattle.std.proofs.lemmas.Bool.Decides.{nat_tests}
 use Rattle.std.specs.Prelude.{nat_le, nat_lt, slice_index, take}
 use Rattle.std.specs.List.{list_all, slice_split, onto_first}
 use Rattle.std.specs.Str.Lines.{strip_carriage_return}
 use Rattle.road_graph.specs.declared.road.NodeNo.{NodeNo}
 use Rattle.plain_search.specs.declared.potential.Potential.{Potential}
-use Rattle.ride_base.specs.declared.numbers.RequestNo.{RequestNo}
 use Rattle.ride_base.specs.declared.numbers.VehicleNo.{VehicleNo}
-use Rattle.ride_base.specs.Pieces.{Piece, Whole, TooLong, TooLarge, is_line_end, ended_in_parts, ended_lines}
+use Rattle.ride_base.specs.Pieces.{is_line_end, ended_in_parts, ended_lines}
 use Rattle.stop_advance.specs.declared.served.Served.{Served}
-use Rattle.stop_schedule.specs.declared.request.Request.{Request}
-use Rattle.board_core.specs.declared.entry.Submitted.TheVariants.{Accepted, Refused}
-use Rattle.journal_text.specs.declared.groups.Group.{Group}
-use Rattle.journal_text.specs.declared.heads.OfferHead.{OfferHead}
-use Rattle.journal_text.specs.declared.heads.RemovalHead.{RemovalHead}
+use Rattle.board_core.specs.declared.entry.Submitted.TheVariants.{Accepted}
 use Rattle.journal_text.specs.declared.heads.Head.{Head}
-use Rattle.journal_text.specs.declared.heads.Head.TheVariants.{Ride, Claim, Back, Offer, Nobody, Clock, Behind, Asked, Declined, Removal, Shut}
+use Rattle.journal_text.specs.declared.heads.Head.TheVariants.{Ride, Offer, Nobody, Clock, Asked, Removal}
 use Rattle.journal_text.specs.declared.draft.Direct.{Direct}
 use Rattle.journal_text.specs.declared.draft.Direct.TheVariants.{Ahead, Absent, Walk}
 use Rattle.journal_text.specs.declared.draft.Draft.{Draft}
-use Rattle.journal_text.specs.TextGroups.{group_text, group_lines, goes_on_with, goes_on_with_line, is_full_walk, last_walk, is_field_end}
-use Rattle.journal_text.specs.Forms.{is_in_form, is_walk_text}
-use Rattle.journal_text.specs.Journals.{is_over, IsNextGroup, BeginsAGroup, IsBadBehind, IsBadLine}
+use Rattle.journal_text.specs.TextGroups.{group_lines, goes_on_with, goes_on_with_line, is_full_walk, last_walk, is_field_end}
+use Rattle.journal_text.specs.Forms.{is_walk_text}
 use Rattle.journal_text.specs.LineParts.{and_then}
-use Rattle.journal_text.specs.LineHeads.{head_in, refusal_in, behind_in}
-use Rattle.journal_text.specs.LineRuns.{nodes_of_line}
-use Rattle.journal_text.specs.Drafts.{is_direct_full_in, most_walks_of, has_walks, has_proof_or_none, is_whole_with, is_whole_draft, is_none_listed, is_clock, leg_of, refused_head, removed_head, refuse_step, remove_step, serve_step, next_leg_of, walk_step, open_leg_of, longer_step, next_number_with, potential_step, are_pairs_full_in, is_ahead, pairs_step, wants_direct_with, direct_step, longer_direct_in, longer_direct_step, draft_step, new_draft, draft_of_line, goes_on_in, head_goes_on_in, walks_go_on_in}
+use Rattle.journal_text.specs.Drafts.{is_direct_full_in, most_walks_of, has_walks, has_proof_or_none, is_whole_with, is_whole_draft, is_none_listed, is_clock, leg_of, refused_head, removed_head, refuse_step, remove_step, serve_step, next_leg_of, walk_step, open_leg_of, longer_step, next_number_with, potential_step, are_pairs_full_in, is_ahead, pairs_step, wants_direct_with, direct_step, longer_direct_in, longer_direct_step, draft_step, draft_of_line, goes_on_in, head_goes_on_in, walks_go_on_in}
 use Rattle.journal_text.specs.DraftTexts.{draft_text, is_commit, most_potentials_of, is_direct_draft, IsDraft, group_of}
 use Rattle.journal_text.proofs.Spelling.{both, both_hold, is_clean, was_then, was_if, le_from}
-use Rattle.journal_text.proofs.DraftSteps.{step_was, WasStep, begin_was, with_head_was, with_direct_was, no_length, none_listed, has_letter}
-use Rattle.journal_text.proofs.DraftReads.{ended, drafted, drafted-append}
-use Rattle.journal_text.proofs.DraftLaws.{Begins, draft_reads}
-use Rattle.journal_text.proofs.GroupLaws.{IsWhole, whole_law, IsGroupDraft, group_draft}
+use Rattle.journal_text.proofs.DraftSteps.{step_was, begin_was, with_head_was, with_direct_was, no_length, none_listed}
+use Rattle.journal_text.proofs.DraftReads.{ended, drafted}
+use Rattle.journal_text.proofs.DraftLaws.{draft_reads}
+use Rattle.journal_text.proofs.GroupLaws.{whole_law}
 
 -- What the lines ahead say of the next group, by the lines that were read.
 

@@ -1,5 +1,4 @@
-use Rattle.std.proofs.Common.{◌≡◌, ℕ, zero, suc, ◌+◌, ◌≤◌, ◌<◌, ◌==◌, Bool, true, false, not, ◌&&◌, ◌||◌, List, [], ◌∷◌, ◌++◌, length, map, flat_map, Option, Some, None, refl, sym, ap, ◌∙◌, subst, append_assoc, append-nil, arith, eqb-true}
-use Rattle.std.proofs.lemmas.Bool.Decides.{nat_tests}
+use Rattle.std.proofs.Common.{◌≡◌, ℕ, ◌+◌, ◌==◌, Bool, true, false, not, ◌&&◌, ◌||◌, List, [], ◌∷◌, ◌++◌, length, map, flat_map, Option, Some, None, refl, sym, ap, ◌∙◌, append-nil, eqb-true}
 use Rattle.ride_base.specs.Pieces.{Piece, Whole}
 use Rattle.plain_search.specs.declared.potential.Potential.{Potential}
 use Rattle.road_graph.specs.declared.road.NodeNo.{NodeNo}
@@ -12,16 +11,14 @@ use Rattle.journal_text.specs.declared.text.TextEntry.{TextEntry}
 use Rattle.journal_text.specs.declared.text.TextEntry.TheVariants as text
 use Rattle.journal_text.specs.declared.groups.Group.{Group}
 use Rattle.journal_text.specs.declared.heads.Head.{Head}
-use Rattle.journal_text.specs.declared.draft.Draft.{Draft}
 use Rattle.journal_text.specs.TextGroups.{group_lines, goes_on_with, goes_on_with_line, joins_go_on, is_full_walk, is_full_direct, is_field_end, last_walk, entry_goes_on}
 use Rattle.journal_text.specs.Forms.{is_in_form}
 use Rattle.journal_text.specs.Journals.{is_over, IsNextGroup, AreGroups}
-use Rattle.journal_text.specs.LineParts.{and_then}
 use Rattle.journal_text.specs.LineHeads.{head_in, lettered_head}
 use Rattle.journal_text.specs.Drafts.{new_draft, draft_of_line}
 use Rattle.journal_text.proofs.Spelling.{was_then}
 use Rattle.journal_text.proofs.ReadLaws.{read_of}
-use Rattle.journal_text.proofs.JournalLaws.{FormReads, form_reads}
+use Rattle.journal_text.proofs.JournalLaws.{form_reads}
 
 -- What was printed of a group is the next group, whatever group follows.
 

@@ -1,22 +1,21 @@
-use Rattle.std.proofs.Common.{◌≡◌, ℕ, ◌+◌, ◌-◌, ◌≤◌, ◌<◌, Bool, true, false, ◌&&◌, cond, List, [], ◌∷◌, ◌++◌, length, map, flat_map, Option, Some, None, refl, sym, ap, ◌∙◌, subst, append_assoc, append-nil, length-append, arith}
+use Rattle.std.proofs.Common.{◌≡◌, ℕ, ◌+◌, ◌-◌, ◌≤◌, Bool, true, false, ◌&&◌, cond, List, [], ◌∷◌, ◌++◌, length, map, flat_map, Some, refl, sym, ap, ◌∙◌, subst, append_assoc, length-append, arith}
 use Rattle.std.proofs.lemmas.Bool.Decides.{nat_tests}
 use Rattle.std.specs.Prelude.{nat_le, nat_lt}
 use Rattle.std.specs.List.{list_all}
 use Rattle.std.specs.Str.Lines.{strip_carriage_return}
-use Rattle.ride_base.specs.Pieces.{Piece, Whole, TooLong, TooLarge, pieces, pieces_of_parts, pieces_from, ended_lines}
+use Rattle.ride_base.specs.Pieces.{Piece, Whole, TooLong, TooLarge, pieces, pieces_of_parts, ended_lines}
 use Rattle.journal_text.specs.declared.groups.Group.{Group}
 use Rattle.journal_text.specs.declared.draft.Draft.{Draft}
 use Rattle.journal_text.specs.TextGroups.{group_text, group_lines}
 use Rattle.journal_text.specs.Forms.{is_in_form}
-use Rattle.journal_text.specs.LineParts.{and_then}
 use Rattle.journal_text.specs.Drafts.{draft_step, draft_of_line}
-use Rattle.journal_text.specs.DraftTexts.{draft_text, IsDraft}
+use Rattle.journal_text.specs.DraftTexts.{IsDraft}
 use Rattle.journal_text.proofs.Spelling.{both, both_hold, le_holds, le_from, is_clean, was_then}
 use Rattle.journal_text.proofs.DraftSteps.{step_was, begin_was}
 use Rattle.journal_text.proofs.DraftReads.{ended, drafted}
 use Rattle.journal_text.proofs.GroupLaws.{whole_law, group_draft}
 use Rattle.journal_text.proofs.RoundTrips.{map-append}
-use Rattle.journal_text.proofs.ReadLaws.{read_of, own_lines, split_line, some_part, strip_clean, ended_all}
+use Rattle.journal_text.proofs.ReadLaws.{read_of, own_lines, split_line, some_part, strip_clean}
 
 -- The lines of a group are no longer than a line may be, so the text of groups is parted into their lines.
 

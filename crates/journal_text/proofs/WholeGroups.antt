@@ -1,28 +1,24 @@
-use Rattle.std.proofs.Common.{◌≡◌, ◌⊎◌, inl, inr, ℕ, zero, suc, ◌+◌, ◌-◌, ◌^◌, ◌≤◌, ◌<◌, ◌==◌, Bool, true, false, ◌&&◌, cond, List, [], ◌∷◌, ◌++◌, length, Option, Some, None, refl, sym, ap, ◌∙◌, subst, append_assoc, append-nil, length-append, arith, codes, eq-eqb}
+use Rattle.std.proofs.Common.{◌≡◌, ◌⊎◌, inl, inr, ℕ, zero, suc, ◌+◌, ◌-◌, ◌≤◌, ◌<◌, ◌==◌, Bool, true, false, ◌&&◌, cond, List, [], ◌∷◌, ◌++◌, length, Some, None, refl, sym, ap, ◌∙◌, append_assoc, append-nil, length-append, arith, codes, eq-eqb}
 use Rattle.std.proofs.lemmas.Bool.Decides.{nat_tests}
 use Rattle.std.specs.Prelude.{nat_le, nat_lt}
-use Rattle.road_graph.specs.declared.road.NodeNo.{NodeNo}
 use Rattle.road_graph.specs.Roads.{node}
 use Rattle.std.specs.Fmt.{decimal}
 use Rattle.plain_search.specs.declared.potential.Potential.{Potential}
-use Rattle.ride_base.specs.declared.numbers.RequestNo.{RequestNo}
 use Rattle.board_core.specs.declared.entry.CancelReason.{CancelReason}
 use Rattle.board_core.specs.declared.entry.CancelReason.TheVariants as why
-use Rattle.journal_text.specs.declared.heads.OfferHead.{OfferHead}
-use Rattle.journal_text.specs.declared.heads.RemovalHead.{RemovalHead}
 use Rattle.journal_text.specs.declared.heads.Head.{Head}
-use Rattle.journal_text.specs.declared.heads.Head.TheVariants.{Ride, Claim, Back, Offer, Nobody, Clock, Behind, Asked, Declined, Removal, Shut}
+use Rattle.journal_text.specs.declared.heads.Head.TheVariants.{Offer, Nobody, Asked, Declined, Removal}
 use Rattle.journal_text.specs.declared.draft.Direct.{Direct}
 use Rattle.journal_text.specs.declared.draft.Direct.TheVariants.{Ahead, Absent, Walk}
 use Rattle.journal_text.specs.declared.draft.Draft.{Draft}
 use Rattle.journal_text.specs.Groups.{spaced, cancel_reason_text}
-use Rattle.journal_text.specs.Forms.{is_number, largest_number}
+use Rattle.journal_text.specs.Forms.{largest_number}
 use Rattle.journal_text.specs.LineParts.{and_then}
-use Rattle.journal_text.specs.Drafts.{most_walks_of, has_walks, has_proof_or_none, is_whole_with, is_whole_draft, is_none_listed, leg_of, with_head, refused_head, next_number_with, wants_direct_with, with_direct, direct_in, draft_step}
-use Rattle.journal_text.specs.DraftTexts.{is_head, leg_at, first_number, draft_text, is_commit, most_potentials_of, is_direct_draft, IsDraft}
-use Rattle.journal_text.proofs.Spelling.{both, both_hold, le_holds, le_from}
+use Rattle.journal_text.specs.Drafts.{most_walks_of, has_walks, has_proof_or_none, is_whole_with, is_whole_draft, is_none_listed, with_head, refused_head, next_number_with, wants_direct_with, with_direct, direct_in, draft_step}
+use Rattle.journal_text.specs.DraftTexts.{is_head, leg_at, first_number, draft_text, is_commit, most_potentials_of, IsDraft}
+use Rattle.journal_text.proofs.Spelling.{both_hold, le_holds, le_from}
 use Rattle.journal_text.proofs.PrintedLines.{cancel_refusal_read}
-use Rattle.journal_text.proofs.DraftSteps.{step_was, most_listed_few, none_listed, first_number_few}
+use Rattle.journal_text.proofs.DraftSteps.{step_was, none_listed, first_number_few}
 use Rattle.journal_text.proofs.DraftReads.{HasRoom, first_of_walk, WantsPotential, begin_of_potential}
 use Rattle.journal_text.proofs.DraftLaws.{HasLegs, legs_of, next_number_is, wants_direct_is}
 

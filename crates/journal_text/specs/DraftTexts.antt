@@ -1,4 +1,4 @@
-use Rattle.std.specs.Prelude.{◌≡◌, ℕ, zero, suc, ◌+◌, ◌-◌, ◌≤◌, ◌==◌, ◌&&◌, nat_lt, nat_le, Bool, true, false, List, [], ◌∷◌, ◌++◌, length, flat_map, Option, Some, None}
+use Rattle.std.specs.Prelude.{◌≡◌, ℕ, ◌+◌, ◌≤◌, ◌==◌, ◌&&◌, nat_lt, nat_le, Bool, true, false, List, [], ◌∷◌, ◌++◌, length, flat_map, Option, Some, None}
 use Rattle.std.specs.List.{list_all}
 use Rattle.road_graph.specs.declared.road.NodeNo.{NodeNo}
 use Rattle.plain_search.specs.declared.potential.Potential.{Potential}
@@ -20,7 +20,7 @@ use Rattle.journal_text.specs.declared.heads.Head.TheVariants.{Ride, Claim, Back
 use Rattle.journal_text.specs.declared.draft.Direct.{Direct}
 use Rattle.journal_text.specs.declared.draft.Direct.TheVariants.{Ahead, Absent, Walk}
 use Rattle.journal_text.specs.declared.draft.Draft.{Draft}
-use Rattle.journal_text.specs.Groups.{spaced, numbers_line, ride_line, served_line, refusal_line, cancel_reason_text, moved_lines, submitted_lines, walk_lines}
+use Rattle.journal_text.specs.Groups.{numbers_line, ride_line, served_line, refusal_line, cancel_reason_text, moved_lines, submitted_lines, walk_lines}
 use Rattle.journal_text.specs.Certificates.{direct_lines, numbered_lines}
 use Rattle.journal_text.specs.Forms.{latest_clock, largest_position, is_number, is_32, is_ride_text, is_served_text, is_walk_text, is_potential_text}
 use Rattle.journal_text.specs.Drafts.{most_walks_of, has_walks, is_none_listed, is_clock, changed_leg_of, joined_leg_of}

@@ -1,21 +1,19 @@
-use Rattle.std.specs.Prelude.{◌≡◌, ℕ, zero, suc, ◌+◌, ◌-◌, ◌%◌, ◌==◌, ◌&&◌, ◌||◌, not, nat_lt, nat_le, Bool, true, false, cond, List, [], ◌∷◌, ◌++◌, length, Option, Some, None, codes}
+use Rattle.std.specs.Prelude.{◌≡◌, ℕ, zero, suc, ◌+◌, ◌-◌, ◌%◌, ◌==◌, ◌&&◌, ◌||◌, nat_lt, nat_le, Bool, true, false, cond, List, [], ◌∷◌, ◌++◌, length, Option, Some, None, codes}
 use Rattle.std.specs.Str.{bytes_eq}
 use Rattle.road_graph.specs.declared.road.NodeNo.{NodeNo}
 use Rattle.plain_search.specs.declared.potential.Potential.{Potential}
 use Rattle.stop_schedule.specs.declared.stop.Insertion.{Insertion}
-use Rattle.ride_base.specs.declared.numbers.RequestNo.{RequestNo}
 use Rattle.ride_base.specs.declared.numbers.VehicleNo.{VehicleNo}
 use Rattle.stop_advance.specs.declared.served.Served.{Served}
 use Rattle.board_core.specs.declared.entry.Submitted.TheVariants.{Accepted, Refused}
-use Rattle.journal_text.specs.declared.heads.OfferHead.{OfferHead}
 use Rattle.journal_text.specs.declared.heads.RemovalHead.{RemovalHead}
 use Rattle.journal_text.specs.declared.heads.Head.{Head}
-use Rattle.journal_text.specs.declared.heads.Head.TheVariants.{Ride, Claim, Back, Offer, Nobody, Clock, Behind, Asked, Declined, Removal, Shut}
+use Rattle.journal_text.specs.declared.heads.Head.TheVariants.{Ride, Offer, Nobody, Clock, Behind, Asked, Declined, Removal}
 use Rattle.journal_text.specs.declared.draft.Direct.{Direct}
 use Rattle.journal_text.specs.declared.draft.Direct.TheVariants.{Ahead, Absent, Walk}
 use Rattle.journal_text.specs.declared.draft.Draft.{Draft}
 use Rattle.journal_text.specs.Forms.{largest_value, most_nodes}
-use Rattle.journal_text.specs.TextGroups.{is_full_walk, last_walk}
+use Rattle.journal_text.specs.TextGroups.{is_full_walk, last_walk, is_field_end}
 use Rattle.journal_text.specs.LineParts.{and_then, number_ahead}
 use Rattle.journal_text.specs.LineRuns.{nodes_of_line, pairs_of_line}
 use Rattle.journal_text.specs.LineHeads.{at_end, head_in, refusal_in, cancel_refusal_in, behind_in, removal_in, served_in}
@@ -279,3 +277,12 @@ head_goes_on_in head d letter = false
 
 abbrev pub goes_on_in : Draft → (letter : ℕ) → Bool
 goes_on_in d letter = head_goes_on_in d.head d letter
+
+-- a field ends behind the letter, and a line of that letter goes on
+abbrev pub goes_on_in_line : Draft → (line : List ℕ) → Bool
+goes_on_in_line d [] = false
+goes_on_in_line d (letter ∷ rest) = is_field_end rest && goes_on_in d letter
+
+-- a walk whose last line is full with the nodes of a line
+abbrev pub longer_by_line : (walk : List NodeNo) → List ℕ → Option (List NodeNo)
+longer_by_line walk rest = cond (length walk % 64 == 0) (and_then (nodes_of_line rest) (λ (run : List NodeNo). lengthened walk run)) None

@@ -1,4 +1,4 @@
-use Rattle.std.specs.Prelude.{◌≡◌, ℕ, ◌≤◌, true, List, [], ◌∷◌, ◌++◌, length, map, flat_map, None}
+use Rattle.std.specs.Prelude.{◌≡◌, ℕ, ◌≤◌, true, List, [], ◌++◌, length, map, flat_map, None}
 use Rattle.std.specs.List.{list_all}
 use Rattle.ride_base.specs.Pieces.{Piece, Whole, pieces}
 use Rattle.board_core.specs.declared.entry.Entry.{Entry}

@@ -12,4 +12,5 @@ pub mod GroupSamples
 pub mod Samples
 pub mod Drafts
 pub mod DraftTexts
+pub mod Readers
 pub mod Laws

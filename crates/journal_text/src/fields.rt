@@ -1,8 +1,10 @@
 ghost use Rattle.std.specs.Prelude.{◌≡◌, ◌≤◌, length, position, Some, None, MatchOption};
 ghost use Rattle.ride_base.specs.Digits.{is_digit as is_digit_of};
 ghost use Rattle.journal_text.specs.Forms.{largest_number as largest_of, largest_32 as largest_of_32};
+ghost use Rattle.journal_text.specs.Drafts.{behind_the, rest_at_end};
 ghost use Rattle.journal_text.specs.LineParts.{behind_space_of, digits_ahead, is_no_digit, number_at_front, number_ahead, plain_number_of};
 
+use crate::runs::LARGEST_VALUE;
 use ride_base::{RequestNo, VehicleNo, number};
 use road_graph::NodeNo;
 
@@ -116,4 +118,28 @@ pub(crate) fn next_node(bytes: &[u8]) -> Option<(NodeNo, &[u8])>
 {
     let (number, rest) = next_32(bytes)?;
     Some((NodeNo(number), rest))
+}
+
+/// What stands behind that number, behind a space at the front. None exactly where it isn't there.
+pub(crate) fn behind_number(bytes: &[u8], number: u64) -> Option<&[u8]>
+    ensures { MatchOption result (behind_the bytes.now number ≡ None)
+        (λ rest. behind_the bytes.now number ≡ Some rest.now) }
+{
+    let (found, rest) = next_number(bytes, number)?;
+    if found == number { Some(rest) } else { None }
+}
+
+/// ` REST` at the end of a line: a number, or `-` for none.
+pub(crate) fn last_rest(bytes: &[u8]) -> Option<Option<u64>>
+    ensures { result ≡ rest_at_end bytes.now }
+{
+    if bytes == b" -".as_slice() {
+        return Some(None);
+    }
+    let (value, rest) = next_number(bytes, LARGEST_VALUE)?;
+    if rest.is_empty() {
+        Some(Some(value))
+    } else {
+        None
+    }
 }
