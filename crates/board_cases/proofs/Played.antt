@@ -159,9 +159,7 @@ waits g old new r s = ap (λ (b : Board). waiting_of b r.no) s.1 ∙ found_last 
 -- what a fleet answers is the answer on its board, where the request waits
 pub answer_to : (g : Roads) (b : Board) (r : Request) (d : Decision) (direct : ℕ) → IsAnswerOf g b.fleet r d direct → IsAnswerTo g b (as_waiting r) d direct
 answer_to g b r Nobody direct h = h.1
-answer_to g b r (IsAssigned a) direct h =
-    let f = h.best.feasible in
-    record { car = f.car; best = h.best; direct_way = h.direct_way; stands = f.stands; walks = h.walks f.car f.stands }
+answer_to g b r (IsAssigned a) direct h = h
 
 possible : (g : Roads) (b : Board) (r : Request) (d : Decision) (direct : ℕ) → AnswersArePossible → IsPlayed g b → IsAnswerOf g b.fleet r d direct → IsPossibleFor b (as_waiting r) d direct × IsShortWay d direct
 possible g b r d direct law p h = law g b (as_waiting r) d direct p.lawful (sym (nodes_of g b p)) (answer_to g b r d direct h)

@@ -110,3 +110,16 @@ fn a_look_stays_as_it_was(rt: HostRuntime) -> Result<(), Fail> {
     let mut board = opened(rt.alloc(), &graph, &cars())?;
     check_look(&rt, rt.alloc(), &graph, &mut board)
 }
+
+/// Whether a value may be sent to other threads and looked at by them: a type that may not doesn't compile.
+fn crosses_threads<T: Send + Sync>(_value: &T) {}
+
+#[test]
+fn boards_and_fleets_cross_threads(rt: HostRuntime) -> Result<(), Fail> {
+    let graph = ring(rt.alloc())?;
+    let board = opened(rt.alloc(), &graph, &cars())?;
+    let look = board.fleet().share(rt.alloc())?;
+    crosses_threads(&board);
+    crosses_threads(&look);
+    Ok(())
+}

@@ -25,6 +25,7 @@ use Rattle.stop_schedule.specs.Fleets.{Car, Cars, Fitting}
 use Rattle.insertion_cost.specs.declared.decision.Assigned.{Assigned}
 use Rattle.insertion_cost.specs.declared.decision.Decision.{Decision}
 use Rattle.insertion_cost.specs.declared.decision.Decision.TheVariants.{Assigned as IsAssigned, Nobody}
+use Rattle.insertion_cost.specs.Offers.{IsOffer}
 use Rattle.stop_removal.specs.declared.removal.Removal.{Removal}
 use Rattle.stop_removal.specs.Removals.{AreStopsOf}
 use Rattle.board_core.specs.declared.fleet.Fleet.{Fleet}
@@ -138,16 +139,19 @@ commits_from old number Nobody direct new x g w many waits none = record { waits
 commits_from old number (IsAssigned a) direct new x g w many waits best = record {
   waits = w;
   direct = direct;
-  car = best.car;
+  car = is.car;
   waiting = waits;
   best = best.best;
   direct_way = best.direct_way;
-  stands = best.stands;
-  walks = best.walks;
-  leads_to = (let same : x.0 ≡ w = same_Some _ _ (sym x.1 ∙ waits) in let car : x.2.0 ≡ best.car = same_Some _ _ (sym x.2.1 ∙ best.stands) in
+  stands = is.stands;
+  walks = best.walks is.car is.stands;
+  leads_to = (let same : x.0 ≡ w = same_Some _ _ (sym x.1 ∙ waits) in let car : x.2.0 ≡ is.car = same_Some _ _ (sym x.2.1 ∙ is.stands) in
       x.2.2 ∙ ap (λ (c : Car). with_car (answered old number (IsAssigned a)) a.offer.place (taken_on old c x.0.request direct a)) car
-      ∙ ap (λ (v : Waiting). with_car (answered old number (IsAssigned a)) a.offer.place (taken_on old best.car v.request direct a)) same);
+      ∙ ap (λ (v : Waiting). with_car (answered old number (IsAssigned a)) a.offer.place (taken_on old is.car v.request direct a)) same);
 }
+  where
+    is : IsOffer g old.fleet w.request a.offer
+    is = best.best.feasible
 
 -- the removal as an entry
 pub cancels_from : (old : Board) (number : RequestNo) (x : Removal) (new : Board) → MayRemove old number x → Removes old number x new → Cancels old number x new

@@ -26,6 +26,7 @@ mod KeptPromises
 mod DoneInTime
 mod GoodFleets
 mod Versions
+mod SameFleets
 mod LaterFleets
 mod Each
 mod KeptPlans

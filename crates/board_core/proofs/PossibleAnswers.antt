@@ -17,9 +17,10 @@ use Rattle.stop_removal.proofs.RemovalLaws.{removals_keep_promises}
 use Rattle.insertion_cost.specs.declared.decision.Assigned.{Assigned}
 use Rattle.insertion_cost.specs.declared.decision.Decision.{Decision}
 use Rattle.insertion_cost.specs.declared.decision.Decision.TheVariants.{Assigned as IsAssigned, Nobody}
-use Rattle.insertion_cost.specs.Offers.{HasPrice, price_in}
+use Rattle.insertion_cost.specs.Offers.{HasPrice, IsOffer, price_in}
+use Rattle.insertion_cost.specs.Pricers.{IsBestPlan}
 use Rattle.insertion_cost.specs.Prices.{priced}
-use Rattle.board_core.specs.BoardCalls.{IsWayBetween, AreWaysBetween, IsPossible, IsPossibleFor, IsBestAnswer, IsAnswerTo}
+use Rattle.board_core.specs.BoardCalls.{IsWayBetween, AreWaysBetween, IsPossible, IsPossibleFor, IsAnswerTo}
 use Rattle.board_core.specs.Boards.{Board, Waiting}
 use Rattle.board_core.specs.Laws.{AnswersArePossible, IsShortWay, RemovalsArePossible}
 use Rattle.board_core.proofs.NewLegs.{dist_unique, lengths_unique}
@@ -43,25 +44,28 @@ one_car : (cars : List Car) (place : ℕ) (car other : Car) → slice_get cars p
 one_car cars place car other stands too = same_Some car other (sym stands ∙ too)
 
 -- the best insertion over a graph is possible
-possible : (g : Roads) (b : Board) (w : Waiting) (a : Assigned) (direct : ℕ) → IsGraph g → g.nodes ≡ b.nodes → IsBestAnswer g b w a direct → IsPossible b w a direct
+possible : (g : Roads) (b : Board) (w : Waiting) (a : Assigned) (direct : ℕ) → IsGraph g → g.nodes ≡ b.nodes → IsBestPlan g b.fleet w.request a direct → IsPossible b w a direct
 possible g b w a direct graph same h = record {
-  car = h.car;
+  car = is.car;
   cost = a.offer.cost;
-  stands = h.stands;
-  numbered = subst (λ (car : Car). car.no ≡ a.offer.no) is h.best.feasible.numbered;
-  ways = ways g graph b.nodes same (changed_ends h.car.plan.stops (front_of h.car.plan b.fleet.clock) w.request a.offer.at) a.walks h.walks;
-  priced_so = of_price (subst (λ (car : Car). HasPrice g b.fleet.rates (front_of car.plan b.fleet.clock) car.plan w.request a.offer.at (price_in a.offer)) is h.best.feasible.price);
+  stands = is.stands;
+  numbered = is.numbered;
+  ways = ways g graph b.nodes same (changed_ends is.car.plan.stops (front_of is.car.plan b.fleet.clock) w.request a.offer.at) a.walks walks;
+  priced_so = of_price is.price;
 }
   where
-    is : h.best.feasible.car ≡ h.car
-    is = one_car b.fleet.cars a.offer.place h.best.feasible.car h.car h.best.feasible.stands h.stands
+    is : IsOffer g b.fleet w.request a.offer
+    is = h.best.feasible
 
-    of_price : HasPrice g b.fleet.rates (front_of h.car.plan b.fleet.clock) h.car.plan w.request a.offer.at (price_in a.offer)
-        → priced b.fleet.rates h.car.plan (front_of h.car.plan b.fleet.clock) w.request a.offer.at direct (map length_of a.walks) ≡ Some (price_in a.offer)
+    walks : AreLeastWalks g (changed_ends is.car.plan.stops (front_of is.car.plan b.fleet.clock) w.request a.offer.at) a.walks
+    walks = h.walks is.car is.stands
+
+    of_price : HasPrice g b.fleet.rates (front_of is.car.plan b.fleet.clock) is.car.plan w.request a.offer.at (price_in a.offer)
+        → priced b.fleet.rates is.car.plan (front_of is.car.plan b.fleet.clock) w.request a.offer.at direct (map length_of a.walks) ≡ Some (price_in a.offer)
     of_price p =
-        subst (λ (x : ℕ). priced b.fleet.rates h.car.plan (front_of h.car.plan b.fleet.clock) w.request a.offer.at x (map length_of a.walks) ≡ Some (price_in a.offer)) (dist_unique p.direct_way h.direct_way)
-        (subst (λ (lengths : List ℕ). priced b.fleet.rates h.car.plan (front_of h.car.plan b.fleet.clock) w.request a.offer.at p.direct lengths ≡ Some (price_in a.offer))
-        (lengths_unique g (changed_ends h.car.plan.stops (front_of h.car.plan b.fleet.clock) w.request a.offer.at) p.lengths a.walks p.changed_legs h.walks) p.priced_so)
+        subst (λ (x : ℕ). priced b.fleet.rates is.car.plan (front_of is.car.plan b.fleet.clock) w.request a.offer.at x (map length_of a.walks) ≡ Some (price_in a.offer)) (dist_unique p.direct_way h.direct_way)
+        (subst (λ (lengths : List ℕ). priced b.fleet.rates is.car.plan (front_of is.car.plan b.fleet.clock) w.request a.offer.at p.direct lengths ≡ Some (price_in a.offer))
+        (lengths_unique g (changed_ends is.car.plan.stops (front_of is.car.plan b.fleet.clock) w.request a.offer.at) p.lengths a.walks p.changed_legs walks) p.priced_so)
 
 -- each answer over a graph is possible
 pub possible_answers : AnswersArePossible

@@ -81,6 +81,19 @@ find_some p f (d ∷ es) (suc at) e x here is passes h = on (f d) refl (find_som
     on None s rest = rest
     on (Some w) s rest = rw (h 0 d w (omega arith) refl s) rest
 
+-- what stands in such a list stands behind an entry
+shown_by : (f : ℕ × ℕ → Option Waiting) (es : List (ℕ × ℕ)) (k : ℕ) (w : Waiting) → slice_get (filter_map f es) k ≡ Some w
+    → (i : ℕ) × (e : ℕ × ℕ) × (slice_get es i ≡ Some e) × (f e ≡ Some w)
+shown_by f [] k w h = cc
+shown_by f (e ∷ es) k w h = on (f e) refl k h (λ k h. shown_by f es k w h)
+  where
+    on : (o : Option Waiting) → f e ≡ o → (k : ℕ) → slice_get (cons_option o (filter_map f es)) k ≡ Some w
+        → ((k : ℕ) → slice_get (filter_map f es) k ≡ Some w → (i : ℕ) × (d : ℕ × ℕ) × (slice_get es i ≡ Some d) × (f d ≡ Some w))
+        → (i : ℕ) × (d : ℕ × ℕ) × (slice_get (e ∷ es) i ≡ Some d) × (f d ≡ Some w)
+    on None s k h rest = let r = rest k h in (suc r.0, r.1, r.2, r.3)
+    on (Some v) s zero h rest = (0, e, refl, s ∙ h)
+    on (Some v) s (suc k) h rest = let r = rest k h in (suc r.0, r.1, r.2, r.3)
+
 map_each : (g : Waiting → Waiting) (f f' : ℕ × ℕ → Option Waiting) (es : List (ℕ × ℕ))
     → ((i : ℕ) (e : ℕ × ℕ) → slice_get es i ≡ Some e → f' e ≡ option_map g (f e)) → filter_map f' es ≡ map g (filter_map f es)
 map_each g f f' [] h = refl
@@ -217,6 +230,14 @@ module _ (slots : List (Option Kept)) (order : List (ℕ × ℕ)) (numbers : Lis
           let alike : d.kept ≡ n.kept = one_kept (ap (kept_at slots) (sym one) ∙ d.stands) n.stands in
           let arrived : n.kept.arrival ≡ e.0 = ap (λ (y : Kept). y.arrival) (sym alike) ∙ d.arrived in
           omega (arith, arrived, others_before q at.0 n.kept.arrival key at.1 i e lt there))))
+
+  -- one that waits is found by its number
+  pub each_found : IsQueue slots order numbers signs next → (k : ℕ) (w : Waiting) → slice_get (in_order order slots) k ≡ Some w → waiting_in (in_order order slots) w.request.no ≡ Some w
+  each_found q k w h =
+      let from = shown_by (waiting_at slots) order k w h in
+      let d = stands_at q from.0 from.1 from.2 in
+      let is : w ≡ d.kept.waiting = waits_as from.1 w d.kept d.stands from.3 in
+      rw is (found q d.kept.waiting.request.no from.1.1 d.kept d.found d.stands)
 
   pub not_found : IsQueue slots order numbers signs next → (number : RequestNo) → key_of numbers number ≡ None → waiting_in (in_order order slots) number ≡ None
   not_found q number h = find_none (λ (w : Waiting). is_number w.request.no number) (waiting_at slots) order (λ i e w there t.

@@ -17,7 +17,8 @@ use Rattle.stop_removal.specs.Removals.{AreStopsOf, joint_ends, removed_in}
 use Rattle.insertion_cost.specs.declared.decision.Assigned.{Assigned}
 use Rattle.insertion_cost.specs.declared.decision.Decision.{Decision}
 use Rattle.insertion_cost.specs.declared.decision.Decision.TheVariants.{Assigned as IsAssigned, Nobody}
-use Rattle.insertion_cost.specs.Offers.{IsBest, NoOffer}
+use Rattle.insertion_cost.specs.Offers.{NoOffer}
+use Rattle.insertion_cost.specs.Pricers.{IsBestPlan}
 use Rattle.insertion_cost.specs.Prices.{priced}
 use Rattle.board_core.specs.declared.entry.Entry.TheVariants.{Commit, Cancel}
 use Rattle.board_core.specs.declared.entry.Cancelled.TheVariants.{Removed}
@@ -75,16 +76,9 @@ Applies old number decision direct new = (w : Waiting) × (waiting_of old number
 
 -- over a graph the decision is the answer to a request: the best insertion, with least walks and with its direct distance, or nobody
 -- where none is feasible
-pub record IsBestAnswer (g : Roads) (b : Board) (r : Waiting) (a : Assigned) (direct : ℕ) : Type 0 where
-  pub car : Car
-  pub best : IsBest g b.fleet r.request a.offer
-  pub direct_way : IsDist g r.request.pickup r.request.dropoff direct
-  pub stands : slice_get b.fleet.cars a.offer.place ≡ Some car
-  pub walks : AreLeastWalks g (changed_ends car.plan.stops (front_of car.plan b.fleet.clock) r.request a.offer.at) a.walks
-
 abbrev pub IsAnswerTo : Roads → Board → Waiting → Decision → ℕ → Type 0
 IsAnswerTo g b r Nobody direct = NoOffer g b.fleet r.request
-IsAnswerTo g b r (IsAssigned a) direct = IsBestAnswer g b r a direct
+IsAnswerTo g b r (IsAssigned a) direct = IsBestPlan g b.fleet r.request a direct
 
 -- over each graph of so many nodes over which the decision is the answer, the step is the entry of that answer
 abbrev pub Commits : Board → RequestNo → Decision → ℕ → Board → Type 0

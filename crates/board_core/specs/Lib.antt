@@ -1,5 +1,6 @@
 pub mod Arrivals
 pub mod Queues
+pub mod WaitingLaws
 pub mod Boards
 pub mod FleetViews
 pub mod Steps

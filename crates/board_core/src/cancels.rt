@@ -47,7 +47,7 @@ impl<I: FleetIndex + Drop> Board<I> {
     }
 
     /// Why the riders of a number can't cancel.
-    fn cancel_refusal(&self, no: RequestNo) -> Option<CancelReason>
+    pub(crate) fn cancel_refusal(&self, no: RequestNo) -> Option<CancelReason>
         ensures { result ≡ cancel_refusal (board_of self.now) no }
     {
         if self.waiting.find(no).is_some() {
@@ -81,7 +81,7 @@ impl<I: FleetIndex + Drop> Board<I> {
     }
 
     /// Which stops the riders of a number have, and least walks of the legs that are joined without them.
-    fn removal_of<W: Walker, L>(
+    pub(crate) fn removal_of<W: Walker, L>(
         &self,
         alloc: Global,
         no: RequestNo,
@@ -110,7 +110,7 @@ impl<I: FleetIndex + Drop> Board<I> {
     }
 
     /// Takes the riders of a number out with these walks.
-    fn remove<L>(
+    pub(crate) fn remove<L>(
         &mut self,
         alloc: Global,
         no: RequestNo,

@@ -3,8 +3,10 @@ ghost use Rattle.board_core.specs.Laws.{LegalHistoriesLeaveGoodFleets};
 ghost use Rattle.board_core.specs.Laws.{OpeningBoardsAreGood, EntriesLeaveGoodBoards};
 ghost use Rattle.board_core.specs.Laws.{HistoriesLeaveGoodBoards, HistoriesRaiseVersions};
 ghost use Rattle.board_core.specs.Laws.{AnswersArePossible, RemovalsArePossible};
+ghost use Rattle.board_core.specs.BoardKept.{AreAccepted};
 ghost use Rattle.board_core.specs.BoardViews.{board_of};
 ghost use Rattle.board_core.specs.Boards.{IsConsistent};
+ghost use Rattle.board_core.specs.WaitingLaws.{AreFoundByNumber};
 
 use crate::board::Board;
 use stop_schedule::FleetIndex;
@@ -40,6 +42,15 @@ pub fn boards_are_consistent<I: FleetIndex>(board: &Board<I>)
     ensures { IsConsistent (board_of board.now) }
 {
     let _nodes = board.nodes;
+}
+
+/// On each board a request that waits is found by its number, so no two of them have one, and its places are nodes, its riders and its
+/// moment in range. It does nothing: the laws are its contract.
+pub fn requests_wait_once<I: FleetIndex>(board: &Board<I>)
+    ensures once { AreFoundByNumber (board_of board.now).waiting }
+    ensures accepted { AreAccepted (board_of board.now) }
+{
+    board.waiting.are_found();
 }
 
 /// Each answer over a graph of a board's nodes is possible on that board, and the direct way of an assignment is shorter than 2^53, in the

@@ -9,6 +9,7 @@ mod board;
 mod cancels;
 mod candidates;
 mod changes;
+mod copies;
 mod entry;
 mod fleet;
 mod law;
@@ -22,6 +23,6 @@ pub use entry::{Advanced, CancelReason, Cancelled, Entry, Reason, Submitted};
 pub use fleet::Fleet;
 pub use law::{
     answers_are_possible, boards_are_consistent, boards_stay_good, fleets_stay_good,
-    promises_are_kept, removals_are_possible, versions_rise,
+    promises_are_kept, removals_are_possible, requests_wait_once, versions_rise,
 };
 pub use waiting::Waiting;

@@ -7,6 +7,7 @@ ghost use Rattle.board_core.specs.Arrivals.{leaves_of};
 ghost use Rattle.board_core.specs.Queues.{HasLeavesOf, IsLeast, IsLonger, IsSignTree, by_number};
 ghost use Rattle.board_core.specs.Queues.{key_at, sign_of, signs_of, unheld_in, waiting_in};
 ghost use Rattle.board_core.specs.Queues.{with_holder, without};
+ghost use Rattle.board_core.specs.WaitingLaws.{AreFoundByNumber};
 
 use crate::arrivals::put_leaf;
 use ride_base::{NoMemory, RequestNo};
@@ -183,6 +184,13 @@ impl Queue {
         let key = *self.numbers.get(&no)?;
         let kept = self.kept.get(key)?;
         Some(&kept.waiting)
+    }
+
+    /// Each request is found by its number. It does nothing: the law is its contract.
+    pub fn are_found(&self)
+        ensures { AreFoundByNumber self.now }
+    {
+        let _next = self.next;
     }
 
     /// The oldest one that no desk holds.

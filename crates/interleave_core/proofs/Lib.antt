@@ -1,0 +1,5 @@
+mod Waits
+mod Claims
+mod Worlds
+mod Played
+mod Plays
