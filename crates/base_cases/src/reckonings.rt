@@ -10,7 +10,7 @@ use crate::cities::line;
 use crate::plans::{at, front, promised};
 use crate::schedules::are_short;
 use insertion_cost::{
-    Behind, NodeWays, Offer, Priced, Spans, PlacedVehicle, best_from, first_of_two, price,
+    Behind, NodeWays, Offer, PlacedVehicle, Priced, Spans, best_from, first_of_two, price,
 };
 use plain_search::least_walk;
 use ride_base::{RequestNo, VehicleNo};
