@@ -1,14 +1,14 @@
 ghost use Rattle.std.specs.Prelude.{◌≡◌, ◌+◌, ◌<◌, ◌≤◌, ◌^◌, length, true, IsTrue, IfOk, IfSome};
-ghost use Rattle.road_graph.specs.Roads.{IsNode};
 ghost use Rattle.insertion_cost.specs.NodeWays.{AreWaysOf, AreWaysTo, IsDistOrNone};
 ghost use Rattle.insertion_cost.specs.Spans.{AreSpans};
 ghost use Rattle.stop_schedule.specs.Keeping.{keeps as keeps_of};
-ghost use Rattle.stop_schedule.specs.Lists.{IsInsertionInto, node_at as node_of_stop};
+ghost use Rattle.stop_schedule.specs.Lists.{IsInsertionInto};
 ghost use Rattle.stop_schedule.specs.Limits.{end_of_time, latest_front, latest_moment, most_riders};
 
 use crate::cities::line;
 use crate::plans::{at, front, promised};
 use crate::schedules::are_short;
+use crate::searches::is_node;
 use insertion_cost::{
     Behind, NodeWays, Offer, PlacedVehicle, Priced, Spans, best_from, first_of_two, price,
 };
@@ -19,7 +19,7 @@ use std::alloc::Global;
 use std::process::Abort;
 use std::test::Fail;
 use stop_schedule::{
-    Front, Insertion, NewWalks, Params, Promise, Request, Schedule, StopKind, Vehicle,
+    Front, Insertion, NewWalks, Params, Promise, Request, Schedule, StopKind, Vehicle, node_at,
 };
 
 /// The nodes of the line upwards, and downwards.
@@ -137,18 +137,6 @@ fn along(
     }
 }
 
-/// The node of stop k, and of the front for 0.
-fn node_at(schedule: &Schedule, front: &Front, k: usize) -> NodeNo
-    requires { k ≤ length schedule.now.stops }
-    ensures { result ≡ node_of_stop front.now schedule.now.stops k }
-{
-    if k == 0 {
-        front.node
-    } else {
-        schedule.stops()[k - 1].node
-    }
-}
-
 /// The walks of the legs that a pair of places changes, in their order.
 fn changed_walks(
     alloc: Global,
@@ -163,7 +151,13 @@ fn changed_walks(
 {
     let (pickup, dropoff) = (request.pickup, request.dropoff);
     let mut walks = NewWalks::new(alloc);
-    walks.push(along(alloc, graph, node_at(schedule, front, at.i), pickup, steps)?);
+    walks.push(along(
+        alloc,
+        graph,
+        node_at(front, schedule.stops(), at.i),
+        pickup,
+        steps,
+    )?);
     if at.i == at.j {
         walks.push(along(alloc, graph, pickup, dropoff, steps)?);
     } else {
@@ -171,17 +165,23 @@ fn changed_walks(
             alloc,
             graph,
             pickup,
-            node_at(schedule, front, at.i + 1),
+            node_at(front, schedule.stops(), at.i + 1),
             steps,
         )?);
-        walks.push(along(alloc, graph, node_at(schedule, front, at.j), dropoff, steps)?);
+        walks.push(along(
+            alloc,
+            graph,
+            node_at(front, schedule.stops(), at.j),
+            dropoff,
+            steps,
+        )?);
     }
     if at.j < schedule.stops().len() {
         walks.push(along(
             alloc,
             graph,
             dropoff,
-            node_at(schedule, front, at.j + 1),
+            node_at(front, schedule.stops(), at.j + 1),
             steps,
         )?);
     }
@@ -481,13 +481,6 @@ fn keeps_all(list: &Schedule, params: &Params) -> bool
     list.dep(params, count) <= list.until()
 }
 
-/// Whether a node is one of the graph's.
-fn is_node(graph: &Graph, node: NodeNo) -> bool
-    ensures { IsTrue result → IsNode graph.now node }
-{
-    1 <= node.0 && node.0 <= graph.nodes()
-}
-
 /// The distance from one node to another.
 fn between(
     alloc: Global,
@@ -543,7 +536,7 @@ fn ways_along(
 {
     let mut ways = Vec::new(alloc);
     for k in 0..schedule.stops().len() + 1 {
-        let node = node_at(schedule, front, k);
+        let node = node_at(front, schedule.stops(), k);
         ways.push(ways_of(alloc, graph, request, node, steps)?)?;
     }
     Ok(ways)

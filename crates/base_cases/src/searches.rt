@@ -236,7 +236,8 @@ fn is_least(
     }
 }
 
-fn is_node(graph: &Graph, node: NodeNo) -> bool
+/// Whether a node is one of the graph's.
+pub fn is_node(graph: &Graph, node: NodeNo) -> bool
     ensures { IsTrue result → IsNode graph.now node }
 {
     1 <= node.0 && node.0 <= graph.nodes()

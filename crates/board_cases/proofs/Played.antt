@@ -21,13 +21,13 @@ use Rattle.board_core.specs.declared.entry.Reason.TheVariants.{Closed, Place, Ri
 use Rattle.board_core.specs.declared.entry.Entry.{Entry}
 use Rattle.board_core.specs.declared.entry.Entry.TheVariants.{Submit, Claim, Back, Commit, Advance, Cancel, Shut}
 use Rattle.board_core.specs.declared.waiting.Waiting.{Waiting}
-use Rattle.board_core.specs.Boards.{Board, opening_board, is_number, waiting_in, waiting_of, was_accepted}
+use Rattle.board_core.specs.Boards.{Board, as_waiting, opening_board, is_number, waiting_in, waiting_of, was_accepted}
 use Rattle.board_core.specs.BoardCalls.{Applies, AppliesTo, Commits, IsAnswerTo, IsPossibleFor, MayApply, MayRemove}
 use Rattle.board_core.specs.Histories.{Legal}
 use Rattle.board_core.specs.Laws.{AnswersArePossible, HasEarlyMoves, IsShortWay, LegalHistoriesLeaveGoodFleets, RemovalsArePossible}
 use Rattle.board_core.specs.Steps.{Step, answered, refusal, taken_on, with_car}
 use Rattle.board_core.proofs.HistoryLaws.{legal_append}
-use Rattle.board_cases.specs.Playing.{IsPlayed, as_waiting}
+use Rattle.board_cases.specs.Playing.{IsPlayed}
 
 -- What is played on a board.
 

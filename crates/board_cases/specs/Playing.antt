@@ -1,12 +1,10 @@
-use Rattle.std.specs.Prelude.{List, None}
+use Rattle.std.specs.Prelude.{List}
 use Rattle.road_graph.specs.Graphs.{IsGraph}
 use Rattle.road_graph.specs.Roads.{Roads}
-use Rattle.stop_schedule.specs.declared.request.Request.{Request}
 use Rattle.stop_schedule.specs.declared.vehicle.Vehicle.{Vehicle}
 use Rattle.stop_schedule.specs.Bounds.{AreVehicles}
 use Rattle.stop_schedule.specs.Rates.{Rates}
 use Rattle.board_core.specs.declared.entry.Entry.{Entry}
-use Rattle.board_core.specs.declared.waiting.Waiting.{Waiting}
 use Rattle.board_core.specs.Boards.{Board, opening_board}
 use Rattle.board_core.specs.Histories.{Legal}
 use Rattle.board_core.specs.Laws.{HasEarlyMoves}
@@ -22,7 +20,3 @@ pub record IsPlayed (g : Roads) (b : Board) : Type 0 where
   pub fleet : AreVehicles g.nodes vehicles
   pub early : HasEarlyMoves history
   pub legal : Legal g (opening_board g.nodes rates vehicles) history b
-
--- a request that waits, and that no desk holds
-abbrev pub as_waiting : Request → Waiting
-as_waiting r = record { request = r; holder = None }

@@ -5,13 +5,13 @@ ghost use Rattle.stop_schedule.specs.Rates.{usual};
 ghost use Rattle.insertion_cost.specs.Pricers.{IsAnswerOf, IsRequestIn};
 ghost use Rattle.board_core.specs.BoardViews.{board_of};
 ghost use Rattle.board_core.specs.BoardCalls.{Applies};
-ghost use Rattle.board_core.specs.Boards.{opening_board, waiting_of};
+ghost use Rattle.board_core.specs.Boards.{as_waiting, opening_board, waiting_of};
 ghost use Rattle.board_core.specs.FleetViews.{cars_of};
 ghost use Rattle.board_core.specs.Steps.{Step};
 ghost use Rattle.board_core.specs.declared.entry.Entry.TheVariants as entry;
 ghost use Rattle.board_core.specs.declared.entry.Submitted.{Submitted};
 ghost use Rattle.board_core.specs.declared.entry.Submitted.TheVariants.{Accepted};
-ghost use Rattle.board_cases.specs.Playing.{IsPlayed, as_waiting};
+ghost use Rattle.board_cases.specs.Playing.{IsPlayed};
 
 use crate::fleets::are_vehicles;
 use crate::walkers::GraphWalker;

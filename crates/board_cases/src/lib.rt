@@ -1,4 +1,4 @@
-//! Tests of the board's layers: its calls, rides that cancel, looks at a fleet, and the lines of a journal.
+//! Tests of the board's layers: its calls, rides that cancel, candidates of before, looks at a fleet, and the lines of a journal.
 #![tactic(auto)]
 
 #[cfg(test)]
@@ -8,6 +8,8 @@ mod cancels;
 #[cfg(test)]
 mod cities;
 #[cfg(test)]
+mod distances;
+#[cfg(test)]
 mod fleets;
 #[cfg(test)]
 mod journal;
@@ -15,6 +17,8 @@ mod journal;
 mod looks;
 #[cfg(test)]
 mod rides;
+#[cfg(test)]
+mod settles;
 #[cfg(test)]
 mod twins;
 #[cfg(test)]

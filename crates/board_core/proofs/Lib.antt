@@ -26,6 +26,7 @@ mod KeptPromises
 mod DoneInTime
 mod GoodFleets
 mod Versions
+mod NamedVehicles
 mod SameFleets
 mod LaterFleets
 mod Each
@@ -40,4 +41,7 @@ mod KeptBoards
 mod LastStops
 mod IsLeaving
 mod PossibleAnswers
+mod Numbers
+mod Claims
+mod Answered
 pub mod HistoryLaws

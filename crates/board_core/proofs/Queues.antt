@@ -18,6 +18,7 @@ use Rattle.std.proofs.lemmas.Map.Keys.{IsDistinct-from_sorted}
 use Rattle.ride_base.specs.declared.numbers.RequestNo.{RequestNo}
 use Rattle.stop_schedule.specs.declared.request.Request.{Request}
 use Rattle.board_core.specs.Queues.{Waiting, Kept, is_number, is_unheld, waiting_in, unheld_in, held_by, with_holder, without, by_number, kept_at, waiting_at, in_order, key_at, key_of, sign_of, Stands, IsNumbered, IsQueue, IsLeast, IsLonger}
+use Rattle.board_core.specs.WaitingLaws.{HaveOwnNumbers}
 
 -- ---- keys by numbers
 equal_is : (x y : ℕ) → is_eq (nat_cmp x y) ≡ (x == y)
@@ -238,6 +239,29 @@ module _ (slots : List (Option Kept)) (order : List (ℕ × ℕ)) (numbers : Lis
       let d = stands_at q from.0 from.1 from.2 in
       let is : w ≡ d.kept.waiting = waits_as from.1 w d.kept d.stands from.3 in
       rw is (found q d.kept.waiting.request.no from.1.1 d.kept d.found d.stands)
+
+  -- no two of those that wait have one number
+  own_from : (es : List (ℕ × ℕ)) → IsStrictlySortedBy nat_cmp (keys_of es) → ((i : ℕ) (e : ℕ × ℕ) → slice_get es i ≡ Some e → Stands slots numbers signs next e.0 e.1) → HaveOwnNumbers (filter_map (waiting_at slots) es)
+  unfolding IsStrictlySortedBy
+  own_from [] rising stands = tt
+  own_from (e ∷ es) rising stands = rw (shows e (stands 0 e refl).kept (stands 0 e refl).stands) (
+    find_none (λ (w : Waiting). is_number w.request.no (stands 0 e refl).kept.waiting.request.no) (waiting_at slots) es (λ i f v there t. other i f v there t),
+    own_from es rising.1 (λ i f h. stands (suc i) f h),
+  )
+    where
+      other : (i : ℕ) (f : ℕ × ℕ) (v : Waiting) → slice_get es i ≡ Some f → waiting_at slots f ≡ Some v → is_number v.request.no (stands 0 e refl).kept.waiting.request.no ≡ false
+      other i f v there t =
+          let d = stands 0 e refl in
+          let c = stands (suc i) f there in
+          let is : v ≡ c.kept.waiting = waits_as f v c.kept c.stands t in
+          rw is (number_apart c.kept.waiting.request.no d.kept.waiting.request.no (λ same.
+          (let one : f.1 ≡ e.1 = one_key c.found (ap (key_of numbers) same ∙ d.found) in
+          let alike : c.kept ≡ d.kept = one_kept c.stands (ap (kept_at slots) one ∙ d.stands) in
+          let arrived : f.0 ≡ e.0 = sym c.arrived ∙ ap (λ (y : Kept). y.arrival) alike ∙ d.arrived in
+          omega (arith, arrived, rises (e ∷ es) rising 0 (suc i) e f (omega arith) refl there))))
+
+  pub own_numbers : IsQueue slots order numbers signs next → HaveOwnNumbers (in_order order slots)
+  own_numbers q = own_from order q.rising (λ i e h. stands_at q i e h)
 
   pub not_found : IsQueue slots order numbers signs next → (number : RequestNo) → key_of numbers number ≡ None → waiting_in (in_order order slots) number ≡ None
   not_found q number h = find_none (λ (w : Waiting). is_number w.request.no number) (waiting_at slots) order (λ i e w there t.

@@ -17,7 +17,7 @@ later_by : (old made new : Board) → new ≡ made → IsLater old made 1 → Is
 later_by old made new e h = subst (λ (b : Board). IsLater old b 1) (sym e) h
 
 -- each lawful entry raises the version by one
-step_later : (g : Roads) (old : Board) (e : Entry) (new : Board) → Step g old e new → IsLater old new 1
+pub step_later : (g : Roads) (old : Board) (e : Entry) (new : Board) → Step g old e new → IsLater old new 1
 step_later g old (Submit r Accepted) new s = later_by old _ new s.1 (record { nodes = refl; rates = refl; vehicles = refl; version = refl })
 step_later g old (Submit r (Refused reason)) new s = later_by old _ new s.1 (record { nodes = refl; rates = refl; vehicles = refl; version = refl })
 step_later g old (Claim number desk) new s = later_by old _ new s.3 (record { nodes = refl; rates = refl; vehicles = refl; version = refl })

@@ -3,10 +3,11 @@ use Rattle.ride_base.specs.declared.numbers.RequestNo.{RequestNo}
 use Rattle.road_graph.specs.declared.road.NodeNo.{NodeNo}
 use Rattle.road_graph.specs.Paths.{Path, length_of}
 use Rattle.road_graph.specs.Roads.{Roads}
-use Rattle.road_graph.specs.Walks.{IsDist, Joins}
+use Rattle.road_graph.specs.Walks.{Joins}
+use Rattle.stop_schedule.specs.declared.request.Request.{Request}
 use Rattle.stop_schedule.specs.declared.vehicle.Vehicle.{Vehicle}
 use Rattle.stop_schedule.specs.Distances.{AreLeastWalks}
-use Rattle.stop_schedule.specs.Fleets.{Car, Fitting, plans_of}
+use Rattle.stop_schedule.specs.Fleets.{Car, Cars, Fitting, plans_of}
 use Rattle.stop_schedule.specs.Fronts.{front_of}
 use Rattle.stop_schedule.specs.Keeping.{keeps}
 use Rattle.stop_schedule.specs.Lists.{changed_ends}
@@ -18,7 +19,7 @@ use Rattle.insertion_cost.specs.declared.decision.Assigned.{Assigned}
 use Rattle.insertion_cost.specs.declared.decision.Decision.{Decision}
 use Rattle.insertion_cost.specs.declared.decision.Decision.TheVariants.{Assigned as IsAssigned, Nobody}
 use Rattle.insertion_cost.specs.Offers.{NoOffer}
-use Rattle.insertion_cost.specs.Pricers.{IsBestPlan}
+use Rattle.insertion_cost.specs.Pricers.{IsAnswerOf, IsBestPlan}
 use Rattle.insertion_cost.specs.Prices.{priced}
 use Rattle.board_core.specs.declared.entry.Entry.TheVariants.{Commit, Cancel}
 use Rattle.board_core.specs.declared.entry.Cancelled.TheVariants.{Removed}
@@ -79,6 +80,14 @@ Applies old number decision direct new = (w : Waiting) × (waiting_of old number
 abbrev pub IsAnswerTo : Roads → Board → Waiting → Decision → ℕ → Type 0
 IsAnswerTo g b r Nobody direct = NoOffer g b.fleet r.request
 IsAnswerTo g b r (IsAssigned a) direct = IsBestPlan g b.fleet r.request a direct
+
+-- the request waits, whoever holds it
+abbrev pub IsWaitingFor : Board → Request → Type 0
+IsWaitingFor b r = (w : Waiting) × (waiting_of b r.no ≡ Some w) × (w.request ≡ r)
+
+-- the answer of a fleet to a request, whatever the length of the direct way
+abbrev pub IsDecisionFor : Roads → Cars → Request → Decision → Type 0
+IsDecisionFor g fleet r d = (direct : ℕ) × IsAnswerOf g fleet r d direct
 
 -- over each graph of so many nodes over which the decision is the answer, the step is the entry of that answer
 abbrev pub Commits : Board → RequestNo → Decision → ℕ → Board → Type 0

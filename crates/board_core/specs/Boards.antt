@@ -9,7 +9,7 @@ use Rattle.stop_schedule.specs.declared.vehicle.Vehicle.{Vehicle}
 use Rattle.stop_schedule.specs.Fleets.{Car, Cars}
 use Rattle.stop_schedule.specs.Plans.{opening_of}
 use Rattle.stop_schedule.specs.Rates.{Rates}
-pub use Rattle.board_core.specs.Queues.{Waiting, is_number, waiting_in, is_unheld, unheld_in, with_holder, without, by_number}
+pub use Rattle.board_core.specs.Queues.{Waiting, as_waiting, is_number, waiting_in, is_unheld, unheld_in, with_holder, without, by_number}
 
 -- A board: how many nodes its graph has, its fleet with clock and version, whether it is closed, the requests that wait in the
 -- order in which they were accepted, and, as maps and sets are seen, in the order of their numbers, the answers and the numbers

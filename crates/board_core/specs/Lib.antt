@@ -9,11 +9,16 @@ pub mod BoardCalls
 pub mod BoardKept
 pub mod Changes
 pub mod Histories
+pub mod NotedHistories
 pub mod Promises
 pub mod Laws
+pub mod NotedLaws
 pub mod CandidateLaws
+pub mod NamedVehicles
 pub mod Samples
 pub mod CallSamples
+pub mod NotedSamples
+pub mod NamedSamples
 pub use Rattle.insertion_cost.specs.Prices
 pub use Rattle.stop_schedule.specs.Distances
 pub use Rattle.insertion_cost.specs.Offers

@@ -5,6 +5,7 @@ use Rattle.std.specs.Map.{keys_of, lookup}
 use Rattle.std.specs.Ordering.{nat_cmp}
 use Rattle.std.specs.declared.cmp.Ordering.{Ordering}
 use Rattle.ride_base.specs.declared.numbers.RequestNo.{RequestNo}
+use Rattle.stop_schedule.specs.declared.request.Request.{Request}
 use Rattle.stop_schedule.specs.Samples.{ride}
 use Rattle.board_core.specs.Arrivals.{HaveLeast, leaves_of}
 pub use Rattle.board_core.specs.declared.waiting.Kept.{Kept}
@@ -16,6 +17,10 @@ is_number a b = a.0 == b.0
 -- the request of a number, among those that wait
 abbrev pub waiting_in : List Waiting → RequestNo → Option Waiting
 waiting_in waiting number = find (λ (w : Waiting). is_number w.request.no number) waiting
+
+-- a request that waits, and that no desk holds
+abbrev pub as_waiting : Request → Waiting
+as_waiting r = record { request = r; holder = None }
 
 abbrev pub is_unheld : Waiting → Bool
 is_unheld w = not (is_some w.holder)

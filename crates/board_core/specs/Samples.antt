@@ -179,7 +179,7 @@ morning =
 abbrev pub at_noon : Board
 at_noon = last_of dawn morning
 
-abbrev got_on : Served
+abbrev pub got_on : Served
 got_on = record { kind = Pickup; no = one.no; node = node 3; arr = 60; dep = 62 }
 
 abbrev evening : List (Entry × Board)

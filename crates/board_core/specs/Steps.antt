@@ -32,7 +32,7 @@ use Rattle.board_core.specs.declared.entry.CancelReason.TheVariants as why
 use Rattle.board_core.specs.declared.entry.Cancelled.TheVariants.{Removed, Refused as Declined}
 use Rattle.board_core.specs.declared.entry.Entry.{Entry}
 use Rattle.board_core.specs.declared.entry.Entry.TheVariants.{Submit, Claim, Back, Commit, Advance, Cancel, Shut}
-use Rattle.board_core.specs.Boards.{Board, Waiting, by_number, waiting_of, answer_of, is_cancelled, was_accepted, oldest_unheld, with_holder, without, with_next_version}
+use Rattle.board_core.specs.Boards.{Board, Waiting, as_waiting, by_number, waiting_of, answer_of, is_cancelled, was_accepted, oldest_unheld, with_holder, without, with_next_version}
 
 -- the first reason for which a board refuses a request
 abbrev pub refusal : Board → Request → Option Reason
@@ -140,7 +140,7 @@ at_clock b now = record b {
 -- version by one, and all that isn't named stays. Walks are free among least walks; all else is fixed by the board and by what was
 -- asked.
 abbrev pub Step : Roads → Board → Entry → Board → Type 0
-Step g old (Submit r Accepted) new = (refusal old r ≡ None) × (new ≡ record (with_next_version old) { waiting = old.waiting ++ record { request = r; holder = None } ∷ [] })
+Step g old (Submit r Accepted) new = (refusal old r ≡ None) × (new ≡ record (with_next_version old) { waiting = old.waiting ++ as_waiting r ∷ [] })
 Step g old (Submit r (Refused reason)) new = (refusal old r ≡ Some reason) × (new ≡ with_next_version old)
 Step g old (Claim number desk) new = (w : Waiting) × (oldest_unheld old ≡ Some w) × (w.request.no ≡ number) × (new ≡ record (with_next_version old) { waiting = with_holder number (Some desk) old.waiting })
 Step g old (Back number) new = (w : Waiting) × (waiting_of old number ≡ Some w) × IsSome w.holder × (new ≡ record (with_next_version old) { waiting = with_holder number None old.waiting })

@@ -1,4 +1,5 @@
 ghost use Rattle.std.specs.Prelude.{◌≡◌, ◌<◌, ◌≤◌, ◌^◌, OnOk, IfOk, IfErr};
+ghost use Rattle.road_graph.specs.Limits.{far};
 ghost use Rattle.board_core.specs.BoardCalls.{Applies, Commits, FitsOn, MayApply};
 ghost use Rattle.board_core.specs.BoardViews.{board_of};
 ghost use Rattle.board_core.specs.Changes.{IsTakenOn};
@@ -25,7 +26,7 @@ impl<I: FleetIndex + Drop> Board<I> {
         steps: &mut Steps<L>,
     ) -> Result<(), Decision>
         requires version { (board_of self.old).fleet.version < 2 ^ 62 }
-        requires direct { direct < 2 ^ 53 }
+        requires direct { direct < far }
         requires possible { MayApply (board_of self.old) no decision direct }
         ensures value { OnOk result
             (Applies (board_of self.old) no decision direct (board_of self.new)) }
@@ -70,7 +71,7 @@ impl<I: FleetIndex + Drop> Board<I> {
         steps: &mut Steps<L>,
     ) -> Result<(), Decision>
         requires version { self.old.fleet.version < 2 ^ 62 }
-        requires direct { direct < 2 ^ 53 }
+        requires direct { direct < far }
         requires possible { MayApply (board_of self.old) no (Decision.Assigned assigned) direct }
         ensures value { OnOk result (Applies (board_of self.old) no (Decision.Assigned assigned)
             direct (board_of self.new)) }
@@ -109,7 +110,7 @@ impl<I: FleetIndex + Drop> Board<I> {
         steps: &mut Steps<L>,
     ) -> Result<Change<I>, NoMemory>
         requires version { self.now.fleet.version < 2 ^ 62 }
-        requires direct { direct < 2 ^ 53 }
+        requires direct { direct < far }
         requires possible { MayApply (board_of self.now) no
             (Decision.Assigned assigned.now) direct }
         ensures change { IfOk result (λ c. IsTakenOn (I.fits self.now.fleet.index)

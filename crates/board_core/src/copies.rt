@@ -1,5 +1,8 @@
-ghost use Rattle.std.specs.Prelude.{◌≡◌, ◌<◌, ◌≤◌, ◌^◌, OnErr, IfOk, IfSome, IsOk, option_map};
-ghost use Rattle.board_core.specs.BoardCalls.{FitsOn};
+ghost use Rattle.std.specs.Prelude.{◌≡◌, ◌+◌, ◌<◌, ◌≤◌, ◌^◌, IfOk, IfSome, IsOk, OnErr, OnOk};
+ghost use Rattle.std.specs.Prelude.{option_map};
+ghost use Rattle.road_graph.specs.Graphs.{IsGraph};
+ghost use Rattle.insertion_cost.specs.Pricers.{IsAnswerOf, IsRequestIn};
+ghost use Rattle.board_core.specs.BoardCalls.{FitsOn, IsDecisionFor, IsWaitingFor};
 ghost use Rattle.board_core.specs.BoardViews.{board_of, Enters, IsClaimed};
 ghost use Rattle.board_core.specs.Steps.{Step};
 ghost use Rattle.board_core.specs.declared.entry.Entry.TheVariants as entry;
@@ -9,10 +12,11 @@ ghost use Rattle.stop_schedule.specs.Limits.{latest_moment};
 use crate::board::Board;
 use crate::entry::{Advanced, Cancelled};
 use crate::fleet::Fleet;
-use crate::moves::renew;
+use crate::law::answers_are_possible;
+use insertion_cost::{Decision, Pricer};
 use ride_base::{Items, NoMemory, RequestNo};
 use road_graph::Steps;
-use std::alloc::Global;
+use std::alloc::{AllocError, Global};
 use stop_removal::Walker;
 use stop_schedule::{FleetIndex, FleetView, Request};
 
@@ -67,12 +71,7 @@ impl<I: FleetIndex + Drop> Board<I> {
         }
         let moved = self.fleet.moved(alloc, &self.arrivals, now, steps)?;
         let copy = Items::from_slice(alloc, moved.served.as_slice())?;
-        renew(&mut self.arrivals, &moved.cars, self.fleet.params(), now);
-        self.fleet.cars = moved.cars;
-        self.fleet.index = moved.index;
-        self.fleet.clock = now;
-        self.fleet.version += 1;
-        Ok((Advanced::Moved(moved.served), Advanced::Moved(copy)))
+        Ok((self.move_to(now, moved), Advanced::Moved(copy)))
     }
 
     /// Takes the riders of a number out as `cancel` does, and gives what became of it twice.
@@ -103,5 +102,68 @@ impl<I: FleetIndex + Drop> Board<I> {
         let copy = removal.share(alloc)?;
         self.remove(alloc, no, &removal, steps)?;
         Ok((Cancelled::Removed(removal), Cancelled::Removed(copy)))
+    }
+
+    /// Gives a request that waits its answer over the pricer's graph, the best insertion with least walks or nobody where none is feasible, and
+    /// hands a copy of it back. The pricer is asked for the direct way alone. After an error nothing has changed.
+    pub fn answer_with_copy<P: Pricer<Fleet<I>>, L>(
+        &mut self,
+        alloc: Global,
+        request: &Request,
+        decision: Decision,
+        pricer: &P,
+        steps: &mut Steps<L>,
+    ) -> Result<Decision, NoMemory>
+        requires version { (board_of self.old).fleet.version < 2 ^ 62 }
+        requires graph { IsGraph (P.graph pricer.now) }
+        requires nodes { (P.graph pricer.now).nodes ≡ self.old.nodes }
+        requires request { IsRequestIn (P.graph pricer.now) request.now }
+        requires waits { IsWaitingFor (board_of self.old) request.now }
+        requires decision { IsDecisionFor
+            (P.graph pricer.now) (board_of self.old).fleet request.now decision }
+        ensures entry { IfOk result (λ told. Step (P.graph pricer.now) (board_of self.old)
+            (entry.Commit request.now.no told) (board_of self.new)) }
+        ensures told { IfOk result (λ told. told ≡ decision) }
+        ensures index { OnOk result (FitsOn (I.fits self.old.fleet.index)
+            (I.fits self.new.fleet.index) (board_of self.old) (board_of self.new)) }
+        ensures err { OnErr result (self.new ≡ self.old) }
+        ensures steps { steps.old.0 ≤ steps.new.0 }
+        ensures few { steps.new.1 ≤ steps.old.1 + 1 }
+        ensures asks { steps.old.1 ≤ steps.new.1 }
+    {
+        answers_are_possible();
+        let direct = direct_way(alloc, self.fleet(), request, &decision, pricer, steps)?;
+        let told = decision.share(alloc)?;
+        match self.apply(alloc, request.no, decision, direct, steps) {
+            Ok(()) => Ok(told),
+            Err(_decision) => Err(AllocError),
+        }
+    }
+}
+
+/// The length of the direct way of an answer, which is 0 where nobody takes the request.
+fn direct_way<F: FleetView, P: Pricer<F>, L>(
+    alloc: Global,
+    fleet: &F,
+    request: &Request,
+    decision: &Decision,
+    pricer: &P,
+    steps: &mut Steps<L>,
+) -> Result<u64, NoMemory>
+    requires request { IsRequestIn (P.graph pricer.now) request.now }
+    requires decision { IsDecisionFor
+        (P.graph pricer.now) (F.fleet fleet.now) request.now decision.now }
+    ensures answer { IfOk result
+        (IsAnswerOf (P.graph pricer.now) (F.fleet fleet.now) request.now decision.now) }
+    ensures steps { steps.old.0 ≤ steps.new.0 }
+    ensures few { steps.new.1 ≤ steps.old.1 + 1 }
+    ensures asks { steps.old.1 ≤ steps.new.1 }
+{
+    match decision {
+        Decision::Nobody => Ok(0),
+        Decision::Assigned(_) => {
+            let direct = pricer.direct(alloc, request, steps)?;
+            Ok(direct.unwrap_or(0))
+        }
     }
 }

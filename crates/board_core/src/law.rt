@@ -6,7 +6,13 @@ ghost use Rattle.board_core.specs.Laws.{AnswersArePossible, RemovalsArePossible}
 ghost use Rattle.board_core.specs.BoardKept.{AreAccepted};
 ghost use Rattle.board_core.specs.BoardViews.{board_of};
 ghost use Rattle.board_core.specs.Boards.{IsConsistent};
-ghost use Rattle.board_core.specs.WaitingLaws.{AreFoundByNumber};
+ghost use Rattle.board_core.specs.NamedVehicles.{ChangedVehiclesAreNamed};
+ghost use Rattle.board_core.specs.NotedLaws.{ClaimsAreHeld, ClaimsStay, ClosedBoardsWereShut};
+ghost use Rattle.board_core.specs.NotedLaws.{HoldersHoldClaims};
+ghost use Rattle.board_core.specs.NotedLaws.{HistoriesKeepNumbersApart, HistoriesLeaveOneBoard};
+ghost use Rattle.board_core.specs.NotedLaws.{NotedEntriesAreLegal, NotedHistoriesComeInParts};
+ghost use Rattle.board_core.specs.NotedLaws.{NotedHistoriesGoOn};
+ghost use Rattle.board_core.specs.WaitingLaws.{AreFoundByNumber, HaveOwnNumbers};
 
 use crate::board::Board;
 use stop_schedule::FleetIndex;
@@ -36,6 +42,12 @@ pub fn versions_rise()
     ensures { HistoriesRaiseVersions }
 {}
 
+/// A vehicle whose schedule changed in a history is named by one of its entries: it was assigned, riders were taken out of its list, or
+/// it reached a stop. It does nothing: the law is its contract.
+pub fn changed_vehicles_are_named()
+    ensures { ChangedVehiclesAreNamed }
+{}
+
 /// On each board the answers agree with its other parts, so it is good over each graph over which its fleet is. It does nothing: the
 /// law is its contract.
 pub fn boards_are_consistent<I: FleetIndex>(board: &Board<I>)
@@ -48,6 +60,7 @@ pub fn boards_are_consistent<I: FleetIndex>(board: &Board<I>)
 /// moment in range. It does nothing: the laws are its contract.
 pub fn requests_wait_once<I: FleetIndex>(board: &Board<I>)
     ensures once { AreFoundByNumber (board_of board.now).waiting }
+    ensures apart { HaveOwnNumbers (board_of board.now).waiting }
     ensures accepted { AreAccepted (board_of board.now) }
 {
     board.waiting.are_found();
@@ -63,4 +76,23 @@ pub fn answers_are_possible()
 /// good. It does nothing: the law is its contract.
 pub fn removals_are_possible()
     ensures { RemovalsArePossible }
+{}
+
+/// A history leaves one board alone, it keeps apart the numbers of the requests that wait, and where it leaves a closed board, that was
+/// shut. It does nothing: the laws are its contract.
+pub fn histories_leave_one_board()
+    ensures one { HistoriesLeaveOneBoard }
+    ensures apart { HistoriesKeepNumbersApart }
+    ensures shut { ClosedBoardsWereShut }
+{}
+
+/// A history whose entries stand with the desks that noted them is a history, it goes on and comes in parts as one, a claim stays until
+/// its desk ends it, and who holds a request holds its claim by the desk's own entries. It does nothing: the laws are its contract.
+pub fn desks_hold_claims()
+    ensures legal { NotedEntriesAreLegal }
+    ensures goes_on { NotedHistoriesGoOn }
+    ensures parts { NotedHistoriesComeInParts }
+    ensures held { ClaimsAreHeld }
+    ensures stay { ClaimsStay }
+    ensures holders { HoldersHoldClaims }
 {}

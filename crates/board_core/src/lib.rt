@@ -22,7 +22,8 @@ pub use candidates::candidates_stay_sound;
 pub use entry::{Advanced, CancelReason, Cancelled, Entry, Reason, Submitted};
 pub use fleet::Fleet;
 pub use law::{
-    answers_are_possible, boards_are_consistent, boards_stay_good, fleets_stay_good,
-    promises_are_kept, removals_are_possible, requests_wait_once, versions_rise,
+    answers_are_possible, boards_are_consistent, boards_stay_good, changed_vehicles_are_named,
+    desks_hold_claims, fleets_stay_good, histories_leave_one_board, promises_are_kept,
+    removals_are_possible, requests_wait_once, versions_rise,
 };
 pub use waiting::Waiting;

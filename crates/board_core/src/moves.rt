@@ -176,11 +176,30 @@ impl<I: FleetIndex + Drop> Board<I> {
             });
         }
         let moved = self.fleet.moved(alloc, &self.arrivals, now, steps)?;
+        Ok(self.move_to(now, moved))
+    }
+
+    /// Puts the vehicles in their places at a later clock.
+    pub(crate) fn move_to(&mut self, now: u64, moved: Moved<I>) -> Advanced
+        requires version { self.old.fleet.version < 2 ^ 62 }
+        requires moment { now ≤ latest_moment }
+        requires later { self.old.fleet.clock ≤ now }
+        requires cars { moved.cars ≡
+            map (moved_car self.old.fleet.params (self.old.fleet.version + 1) now)
+            self.old.fleet.cars }
+        requires served { moved.served ≡ served_in (cars_of self.old.fleet) now }
+        requires index { FitsLater (I.fits self.old.fleet.index) (I.fits moved.index)
+            (cars_of self.old.fleet) now }
+        ensures value { Enters (board_of self.old) (entry.Advance now result) (board_of self.new) }
+        ensures told { result ≡ Advanced.Moved moved.served }
+        ensures index { FitsOn (I.fits self.old.fleet.index)
+            (I.fits self.new.fleet.index) (board_of self.old) (board_of self.new) }
+    {
         renew(&mut self.arrivals, &moved.cars, self.fleet.params(), now);
         self.fleet.cars = moved.cars;
         self.fleet.index = moved.index;
         self.fleet.clock = now;
         self.fleet.version += 1;
-        Ok(Advanced::Moved(moved.served))
+        Advanced::Moved(moved.served)
     }
 }

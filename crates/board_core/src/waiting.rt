@@ -7,7 +7,7 @@ ghost use Rattle.board_core.specs.Arrivals.{leaves_of};
 ghost use Rattle.board_core.specs.Queues.{HasLeavesOf, IsLeast, IsLonger, IsSignTree, by_number};
 ghost use Rattle.board_core.specs.Queues.{key_at, sign_of, signs_of, unheld_in, waiting_in};
 ghost use Rattle.board_core.specs.Queues.{with_holder, without};
-ghost use Rattle.board_core.specs.WaitingLaws.{AreFoundByNumber};
+ghost use Rattle.board_core.specs.WaitingLaws.{AreFoundByNumber, HaveOwnNumbers};
 
 use crate::arrivals::put_leaf;
 use ride_base::{NoMemory, RequestNo};
@@ -186,9 +186,10 @@ impl Queue {
         Some(&kept.waiting)
     }
 
-    /// Each request is found by its number. It does nothing: the law is its contract.
+    /// Each request is found by its number, and no two have one. It does nothing: the laws are its contract.
     pub fn are_found(&self)
-        ensures { AreFoundByNumber self.now }
+        ensures found { AreFoundByNumber self.now }
+        ensures apart { HaveOwnNumbers self.now }
     {
         let _next = self.next;
     }

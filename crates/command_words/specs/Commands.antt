@@ -3,6 +3,7 @@ use Rattle.std.specs.List.{list_any, before_first, after_first}
 use Rattle.std.specs.Str.{bytes_eq}
 use Rattle.ride_base.specs.Digits.{number_of}
 use Rattle.ride_base.specs.Fields.{largest_32}
+pub use Rattle.ride_base.specs.Options.{and_then}
 use Rattle.stop_schedule.specs.Rates.{Rates, rates_of, usual}
 
 -- What the words of a command line say.
@@ -133,10 +134,6 @@ within least most digits = kept_where (nat_le least) (number_of digits most)
 abbrev pub number_or : (least most usual : ℕ) → Option Word → Option ℕ
 number_or least most other None = Some other
 number_or least most other (Some digits) = within least most digits
-
-abbrev pub and_then : {X Y : Type 0} → Option X → (X → Option Y) → Option Y
-and_then None f = None
-and_then (Some x) f = f x
 
 -- a parameter up to 65,536, where a function gives the values of the options
 abbrev pub parameter : (Word → Option Word) → Word → (least usual : ℕ) → Option ℕ

@@ -99,7 +99,7 @@ listed_or (x ∷ entries) place = on (x.place == place) refl (listed_or entries 
 
 -- ---- firsts under a condition
 
-first_where : (among both : Offer → Type 0) (best : Option Offer) → ((o : Offer) → both o → among o) → ((o : Offer) → among o → both o)
+pub first_where : (among both : Offer → Type 0) (best : Option Offer) → ((o : Offer) → both o → among o) → ((o : Offer) → among o → both o)
     → IsFirst among best → IsFirst both best
 first_where among both None from to f = λ o z. f o (from o z)
 first_where among both (Some b) from to f = (to b f.0, λ other z. f.1 other (from other z))

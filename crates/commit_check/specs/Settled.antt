@@ -1,16 +1,15 @@
-use Rattle.std.specs.Prelude.{◌≡◌, ℕ, zero, suc, ◌+◌, ◌<◌, ◌≤◌, ◌⊎◌, nat_lt, cond, List, [], ◌∷◌, length, Option, Some, None, slice_get, refl}
-use Rattle.road_graph.specs.Roads.{Roads, node}
+use Rattle.std.specs.Prelude.{◌≡◌, ℕ, zero, suc, ◌+◌, ◌<◌, ◌≤◌, ◌⊎◌, nat_lt, cond, List, [], ◌∷◌, length, Option, Some, None, slice_get, All as EachOf, Contains, refl}
+use Rattle.std.specs.List.Sorted.{IsStrictlyIncreasing}
+use Rattle.road_graph.specs.Roads.{Roads}
 use Rattle.stop_schedule.specs.declared.request.Request.{Request}
-use Rattle.stop_schedule.specs.declared.stop.Front.{Front}
 use Rattle.stop_schedule.specs.Rates.{usual}
-use Rattle.stop_schedule.specs.Samples.{opened}
 use Rattle.stop_schedule.specs.Fleets.{Car, Cars, OfCar}
 use Rattle.stop_schedule.specs.Fronts.{front_of}
 use Rattle.insertion_cost.specs.declared.candidates.Candidate.{Candidate}
 use Rattle.insertion_cost.specs.declared.candidates.Floor.TheVariants.{All}
 use Rattle.insertion_cost.specs.declared.decision.Decision.{Decision}
 use Rattle.insertion_cost.specs.declared.offer.Offer.{Offer}
-use Rattle.insertion_cost.specs.Candidates.{is_same_front, redone}
+use Rattle.insertion_cost.specs.Candidates.{is_same_front, redone, standing, standing_car}
 use Rattle.insertion_cost.specs.Offers.{IsFirst, IsOfferFrom, IsOfferNow}
 use Rattle.insertion_cost.specs.Pricers.{IsAnswerOf}
 
@@ -57,6 +56,16 @@ pub record IsKnown (g : Roads) (fleet : Cars) (r : Request) (base : ℕ) (entrie
   pub known : (base < car.stamp) ⊎ IsListedAt entries o.place
   pub offer : IsOfferNow g fleet o.place car r o
 
+-- ---- in which places schedules may have changed
+
+-- The places rise, each is that of a vehicle, and those of all vehicles whose schedules changed after
+-- the base are among them.
+pub record HoldChanged (fleet : Cars) (base : ℕ) (places : List ℕ) : Type 0 where
+  pub rising : IsStrictlyIncreasing places
+  pub within : EachOf (λ (p : ℕ). p < length fleet.cars) places
+  pub every : (p : ℕ) (car : Car) → slice_get fleet.cars p ≡ Some car → base < car.stamp
+      → Contains places p
+
 -- ---- how many of them are priced anew
 
 -- 1 where a vehicle's schedule changed after the base
@@ -91,12 +100,6 @@ moved_in fleet base [] = 0
 moved_in fleet base (e ∷ entries) = moved_at fleet base e + moved_in fleet base entries
 
 -- ---- examples
-
-abbrev standing : ℕ → Front
-standing time = record { node = node 1; time = time; offset = 0 }
-
-abbrev standing_car : ℕ → Car
-standing_car stamp = record { no = record { 0 = 1 }; plan = opened; stamp = stamp }
 
 -- The second of three vehicles changed after version 4, at which the first two were priced.
 abbrev at_clock : ℕ → Cars

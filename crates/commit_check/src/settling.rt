@@ -3,8 +3,9 @@ ghost use Rattle.stop_schedule.specs.Fleets.{IsGoodView};
 ghost use Rattle.insertion_cost.specs.Candidates.{AreSound, Settles, redone};
 ghost use Rattle.insertion_cost.specs.Offers.{IsBestOrNone, IsFirst};
 ghost use Rattle.insertion_cost.specs.Pricers.{IsRequestIn};
-ghost use Rattle.commit_check.specs.Settled.{IsDecision, IsFirstChanged, IsFirstUnchanged, IsKnown};
-ghost use Rattle.commit_check.specs.Settled.{IsTrueEntry, changed, changed_at, moved_at};
+ghost use Rattle.commit_check.specs.Settled.{HoldChanged, IsDecision, IsFirstChanged};
+ghost use Rattle.commit_check.specs.Settled.{IsFirstUnchanged, IsKnown, IsTrueEntry};
+ghost use Rattle.commit_check.specs.Settled.{changed, changed_at, moved_at};
 
 use insertion_cost::{
     Assigned, Candidate, Candidates, Decision, Offer, Pricer, best_listed, first_of_two, is_decided,
@@ -41,10 +42,11 @@ fn changed_offer<F: FleetView, P: Pricer<F>, L>(
     pricer.one(alloc, view, place, request, steps)
 }
 
-/// The first offer of all vehicles whose schedules changed after the base, priced anew.
+/// The first offer of all vehicles whose schedules changed after the base, priced anew. They stand in some of these places.
 fn first_changed<F: FleetView, P: Pricer<F>, L>(
     alloc: Global,
     view: &F,
+    places: &[usize],
     base: u64,
     request: &Request,
     pricer: &P,
@@ -53,6 +55,7 @@ fn first_changed<F: FleetView, P: Pricer<F>, L>(
     requires view { IsGoodView
         (F.Index.fits (F.index_of view.now)) (P.graph pricer.now) (F.fleet view.now) }
     requires request { IsRequestIn (P.graph pricer.now) request.now }
+    requires places { HoldChanged (F.fleet view.now) base places.now }
     ensures first { IfOk result
         (IsFirst (IsKnown (P.graph pricer.now) (F.fleet view.now) request.now base [])) }
     ensures steps { steps.old.0 ≤ steps.new.0 }
@@ -60,8 +63,8 @@ fn first_changed<F: FleetView, P: Pricer<F>, L>(
     ensures kept { steps.old.1 ≤ steps.new.1 }
 {
     let mut best = None;
-    for place in 0..view.count() {
-        let offer = changed_offer(alloc, view, base, place, request, pricer, steps)?;
+    for place in places {
+        let offer = changed_offer(alloc, view, base, *place, request, pricer, steps)?;
         best = first_of_two(best, offer);
     }
     Ok(best)
@@ -105,6 +108,7 @@ fn unchanged_offer<F: FleetView, P: Pricer<F>, L>(
 fn first_known<F: FleetView, P: Pricer<F>, L>(
     alloc: Global,
     view: &F,
+    places: &[usize],
     candidates: &Candidates,
     request: &Request,
     pricer: &P,
@@ -115,6 +119,7 @@ fn first_known<F: FleetView, P: Pricer<F>, L>(
     requires request { IsRequestIn (P.graph pricer.now) request.now }
     requires sound { AreSound
         (P.graph pricer.now) (F.fleet view.now) request.now candidates.now }
+    requires places { HoldChanged (F.fleet view.now) candidates.now.base places.now }
     ensures first { IfOk result (IsFirst (IsKnown (P.graph pricer.now) (F.fleet view.now)
         request.now candidates.now.base candidates.now.entries)) }
     ensures steps { steps.old.0 ≤ steps.new.0 }
@@ -122,7 +127,7 @@ fn first_known<F: FleetView, P: Pricer<F>, L>(
     ensures kept { steps.old.1 ≤ steps.new.1 }
 {
     let base = candidates.base;
-    let mut best = first_changed(alloc, view, base, request, pricer, steps)?;
+    let mut best = first_changed(alloc, view, places, base, request, pricer, steps)?;
     let entries = candidates.entries.as_slice();
     for entry in entries {
         let listed = unchanged_offer(alloc, view, base, entry, request, pricer, steps)?;
@@ -135,6 +140,7 @@ fn first_known<F: FleetView, P: Pricer<F>, L>(
 fn best_now<F: FleetView, P: Pricer<F>, L>(
     alloc: Global,
     view: &F,
+    places: &[usize],
     candidates: &Candidates,
     request: &Request,
     pricer: &P,
@@ -145,6 +151,7 @@ fn best_now<F: FleetView, P: Pricer<F>, L>(
     requires request { IsRequestIn (P.graph pricer.now) request.now }
     requires sound { AreSound
         (P.graph pricer.now) (F.fleet view.now) request.now candidates.now }
+    requires places { HoldChanged (F.fleet view.now) candidates.now.base places.now }
     ensures best { IfOk result
         (IsBestOrNone (P.graph pricer.now) (F.fleet view.now) request.now) }
     ensures steps { steps.old.0 ≤ steps.new.0 }
@@ -154,12 +161,25 @@ fn best_now<F: FleetView, P: Pricer<F>, L>(
         + length (F.fleet view.now).cars }
     ensures kept { steps.old.1 ≤ steps.new.1 }
 {
-    let best = first_known(alloc, view, candidates, request, pricer, steps)?;
+    let best = first_known(alloc, view, places, candidates, request, pricer, steps)?;
     if is_decided(candidates.floor, best) {
         return Ok(best);
     }
     let priced = pricer.price(alloc, view, request, steps)?;
     Ok(best_listed(&priced))
+}
+
+/// The places of all vehicles whose schedules changed after the base.
+fn changed_places<F: FleetView>(alloc: Global, view: &F, base: u64) -> Result<Vec<usize>, NoMemory>
+    ensures { IfOk result (λ places. HoldChanged (F.fleet view.now) base places.items) }
+{
+    let mut places = Vec::new(alloc);
+    for place in 0..view.count() {
+        if base < view.stamp(place) {
+            places.push(place)?;
+        }
+    }
+    Ok(places)
 }
 
 /// The answer of a fleet as it is now to a request, by candidates that are sound for it: the best insertion with least walks of the legs
@@ -188,7 +208,37 @@ pub fn settle<F: FleetView, P: Pricer<F>, L>(
         + length (F.fleet view.now).cars + 1 }
     ensures kept { steps.old.1 ≤ steps.new.1 }
 {
-    let Some(offer) = best_now(alloc, view, candidates, request, pricer, steps)? else {
+    let places = changed_places(alloc, view, candidates.base)?;
+    settle_among(alloc, view, &places, candidates, request, pricer, steps)
+}
+
+/// The same, where the vehicles whose schedules changed after the candidates' base are known to stand in some of these places. It looks at
+/// no other vehicles but the listed ones, unless the whole fleet is to be priced.
+pub fn settle_among<F: FleetView, P: Pricer<F>, L>(
+    alloc: Global,
+    view: &F,
+    places: &[usize],
+    candidates: &Candidates,
+    request: &Request,
+    pricer: &P,
+    steps: &mut Steps<L>,
+) -> Result<Decision, NoMemory>
+    requires view { IsGoodView
+        (F.Index.fits (F.index_of view.now)) (P.graph pricer.now) (F.fleet view.now) }
+    requires request { IsRequestIn (P.graph pricer.now) request.now }
+    requires sound { AreSound
+        (P.graph pricer.now) (F.fleet view.now) request.now candidates.now }
+    requires places { HoldChanged (F.fleet view.now) candidates.now.base places.now }
+    ensures decision { IfOk result
+        (IsDecision (P.graph pricer.now) (F.fleet view.now) request.now) }
+    ensures steps { steps.old.0 ≤ steps.new.0 }
+    ensures few { Settles (P.graph pricer.now) (F.fleet view.now) request.now candidates.now
+        → steps.new.1 ≤ steps.old.1 + redone (F.fleet view.now) candidates.now + 1 }
+    ensures most { steps.new.1 ≤ steps.old.1 + redone (F.fleet view.now) candidates.now
+        + length (F.fleet view.now).cars + 1 }
+    ensures kept { steps.old.1 ≤ steps.new.1 }
+{
+    let Some(offer) = best_now(alloc, view, places, candidates, request, pricer, steps)? else {
         return Ok(Decision::Nobody);
     };
     let walks = pricer.walks(alloc, view, request, &offer, steps)?;

@@ -1,14 +1,14 @@
-pub mod HasChain
-pub mod Passes
-pub mod IsParted
-pub mod IsContracting
-pub mod IsFitting
-pub mod Contains
-pub mod AreBridges
-pub mod AreStanding
-pub mod IsSearch
-pub mod AreFirst
-pub mod ClearedRows
-pub mod IsWork
-pub mod AreWaiting
-pub mod Examples
+mod HasChain
+mod Passes
+mod IsParted
+mod IsContracting
+mod IsFitting
+mod Contains
+mod AreBridges
+mod AreStanding
+mod IsSearch
+mod AreFirst
+mod ClearedRows
+mod IsWork
+mod AreWaiting
+mod Examples

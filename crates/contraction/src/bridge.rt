@@ -1,4 +1,5 @@
 ghost use Rattle.std.specs.Prelude.{◌≡◌, ◌^◌, ◌<◌, ◌++◌, length, IfOk, OnOk, MatchBool, option_to_list};
+ghost use Rattle.road_graph.specs.Limits.{far};
 ghost use Rattle.contraction.specs.declared.rows.End.TheVariants.{From};
 ghost use Rattle.contraction.specs.Rows.{Stands, IsHere, AreHere, AreSound};
 ghost use Rattle.contraction.specs.Searching.{IsMarked};
@@ -18,8 +19,8 @@ const FEW: u32 = 50;
 
 /// The length of the longest way over one arc and one of these that doesn't lead back; 0 where there is none.
 fn longest(down: RankArc, ups: &[RankArc]) -> u64
-    requires down { down.length < 2 ^ 53 }
-    requires ups { AreLight (2 ^ 53) ups.now }
+    requires down { down.length < far }
+    requires ups { AreLight far ups.now }
     ensures { result < 2 ^ 54 }
 {
     let mut longest = 0;
@@ -83,7 +84,7 @@ fn bridges_from(
     requires sound { AreSound From rows.now }
     requires marked { IsMarked (length rows.now) search.old }
     ensures found { OnOk result
-        (AreFrom (2 ^ 53) node down ups.now (Stands rows.now) found.old found.new) }
+        (AreFrom far node down ups.now (Stands rows.now) found.old found.new) }
     ensures marked { OnOk result (IsMarked (length rows.now) search.new) }
 {
     search.run(rows, down.from, node, longest(down, ups), MANY)?;
@@ -107,7 +108,7 @@ pub(crate) fn bridges(
     requires sound { AreSound From rows.now }
     requires marked { IsMarked (length rows.now) search.old }
     ensures found { IfOk result
-        (λ found. AreBridges (2 ^ 53) node ins.now outs.now (Stands rows.now) found) }
+        (λ found. AreBridges far node ins.now outs.now (Stands rows.now) found) }
     ensures marked { IfOk result (λ _. IsMarked (length rows.now) search.new) }
 {
     let mut found = Items::new(alloc);

@@ -1,12 +1,9 @@
 use Rattle.std.specs.Prelude.{◌≡◌, ℕ, List, [], ◌∷◌, ◌++◌, Ok, Err, pos, negsuc, codes, refl}
+use Rattle.ride_base.specs.Pieces.{with_line_end as line}
 use Rattle.road_graph.specs.Roads.{node}
 use Rattle.dimacs_reader.specs.declared.faults.GraphFault.TheVariants.{Form, Count, Node, Weight, Limit}
 use Rattle.dimacs_reader.specs.Graphs.{graph_of}
 use Rattle.dimacs_reader.specs.Places.{places_of}
-
--- a line with its end
-abbrev line : List ℕ → List ℕ
-line text = text ++ 10 ∷ []
 
 one_road : graph_of (line (codes "p sp 2 1") ++ line (codes "a 1 2 10")) ≡ Ok (record { nodes = 2; roads = record { from = node 1; to = node 2; weight = 10 } ∷ [] })
 one_road = refl

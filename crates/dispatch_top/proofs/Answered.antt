@@ -43,7 +43,9 @@ use Rattle.board_core.specs.Laws.{HasEarlyMoves, IsShortWay}
 use Rattle.board_core.specs.Steps.{Step, refusal}
 use Rattle.journal_text.specs.Groups.{group, journal_of}
 use Rattle.journal_text.specs.Printable.{IsPrintable, IsPrintableOffer, IsPrintableRemoval}
-use Rattle.dispatch_top.specs.Answering.{AreAnswered, IsCommitted, as_waiting}
+use Rattle.dispatch_top.specs.declared.sums.Sums.{Sums}
+use Rattle.dispatch_top.specs.Answering.{AreAnswered, IsCommitted, IsTold, as_waiting}
+use Rattle.dispatch_top.specs.Sums.{AreFew, HasRoom, counted}
 
 -- What is answered on a board, event by event.
 
@@ -160,6 +162,16 @@ step_version g old new (Cancel number (Removed x)) h = ap (λ (b : Board). b.fle
 step_version g old new (Cancel number (Declined reason)) h = ap (λ (b : Board). b.fleet.version) h.1
 step_version g old new Shut h = ap (λ (b : Board). b.fleet.version) h.1
 
+-- ---- what is counted
+
+-- on a board that is far from its last version one more entry can be counted
+pub has_room : (b : Board) (sums : Sums) → b.fleet.version < 2 ^ 62 → AreFew b.fleet.version sums → HasRoom sums
+has_room b sums early few = (b.fleet.version, omega arith, few)
+
+-- one more entry was counted, as the board has one more
+few_behind : (g : Roads) (old new : Board) (e : Entry) (sums sums' : Sums) → Step g old e new → AreFew old.fleet.version sums → ((n : ℕ) → AreFew n sums → AreFew (n + 1) sums') → AreFew new.fleet.version sums'
+few_behind g old new e sums sums' s few more = subst (λ (n : ℕ). AreFew n sums') (sym (step_version g old new e s)) (more old.fleet.version few)
+
 -- one entry, which isn't a move past the latest moment
 early_one : (e : Entry) → ((now : ℕ) (advanced : Advanced) → e ≡ Advance now advanced → now ≤ latest_moment) → HasEarlyMoves (e ∷ [])
 early_one e h zero now advanced i = h now advanced (let f : e ≡ Advance now advanced = cc in f)
@@ -169,56 +181,64 @@ one_text : (e : Entry) (old text : List ℕ) → old ≡ [] → text ≡ old ++ 
 one_text e old text empty t = t ∙ ap (λ (l : List ℕ). l ++ group e) empty ∙ sym (append-nil (group e))
 
 -- a request was refused
-pub refused : (g : Roads) (old new : Board) (r : Request) (reason : Reason) (before text : List ℕ) → Step g old (Submit r (Refused reason)) new → before ≡ [] → text ≡ before ++ group (Submit r (Refused reason))
-    → AreAnswered g old (Ride r ∷ []) new text
-refused g old new r reason before text s empty t = record {
+pub refused : (g : Roads) (old new : Board) (r : Request) (reason : Reason) (before text : List ℕ) (sums sums' : Sums) → Step g old (Submit r (Refused reason)) new → before ≡ [] → IsTold (Submit r (Refused reason)) before text sums sums' → AreFew old.fleet.version sums
+    → AreAnswered g old (Ride r ∷ []) new text sums sums'
+refused g old new r reason before text sums sums' s empty t few = record {
   entries = Submit r (Refused reason) ∷ [];
   legal = (new, s, refl);
   asked = refl;
   at_once = tt;
   early = early_one (Submit r (Refused reason)) (λ now advanced e. cc);
-  rendered = one_text (Submit r (Refused reason)) before text empty t;
+  rendered = one_text (Submit r (Refused reason)) before text empty t.rendered;
+  counts = t.counts;
+  small = few_behind g old new (Submit r (Refused reason)) sums sums' s few t.few;
   nodes = step_nodes g old new (Submit r (Refused reason)) s;
   few = let v = step_version g old new (Submit r (Refused reason)) s in omega arith;
 }
 
 -- the clock was moved, or not
-pub moved : (g : Roads) (old new : Board) (now : ℕ) (advanced : Advanced) (before text : List ℕ) → now ≤ latest_moment → Step g old (Advance now advanced) new → before ≡ [] → text ≡ before ++ group (Advance now advanced)
-    → AreAnswered g old (Move now ∷ []) new text
-moved g old new now advanced before text m s empty t = record {
+pub moved : (g : Roads) (old new : Board) (now : ℕ) (advanced : Advanced) (before text : List ℕ) (sums sums' : Sums) → now ≤ latest_moment → Step g old (Advance now advanced) new → before ≡ [] → IsTold (Advance now advanced) before text sums sums' → AreFew old.fleet.version sums
+    → AreAnswered g old (Move now ∷ []) new text sums sums'
+moved g old new now advanced before text sums sums' m s empty t few = record {
   entries = Advance now advanced ∷ [];
   legal = (new, s, refl);
   asked = refl;
   at_once = tt;
   early = early_one (Advance now advanced) (λ other a e. let f : now ≡ other = cc in subst (λ (x : ℕ). x ≤ latest_moment) f m);
-  rendered = one_text (Advance now advanced) before text empty t;
+  rendered = one_text (Advance now advanced) before text empty t.rendered;
+  counts = t.counts;
+  small = few_behind g old new (Advance now advanced) sums sums' s few t.few;
   nodes = step_nodes g old new (Advance now advanced) s;
   few = let v = step_version g old new (Advance now advanced) s in omega arith;
 }
 
 -- riders cancelled, or couldn't
-pub cancelled : (g : Roads) (old new : Board) (number : RequestNo) (c : Cancelled) (before text : List ℕ) → Step g old (Cancel number c) new → before ≡ [] → text ≡ before ++ group (Cancel number c)
-    → AreAnswered g old (Withdraw number ∷ []) new text
-cancelled g old new number c before text s empty t = record {
+pub cancelled : (g : Roads) (old new : Board) (number : RequestNo) (c : Cancelled) (before text : List ℕ) (sums sums' : Sums) → Step g old (Cancel number c) new → before ≡ [] → IsTold (Cancel number c) before text sums sums' → AreFew old.fleet.version sums
+    → AreAnswered g old (Withdraw number ∷ []) new text sums sums'
+cancelled g old new number c before text sums sums' s empty t few = record {
   entries = Cancel number c ∷ [];
   legal = (new, s, refl);
   asked = refl;
   at_once = tt;
   early = early_one (Cancel number c) (λ now advanced e. cc);
-  rendered = one_text (Cancel number c) before text empty t;
+  rendered = one_text (Cancel number c) before text empty t.rendered;
+  counts = t.counts;
+  small = few_behind g old new (Cancel number c) sums sums' s few t.few;
   nodes = step_nodes g old new (Cancel number c) s;
   few = let v = step_version g old new (Cancel number c) s in omega arith;
 }
 
 -- a line that says nothing
-pub nothing_said : (g : Roads) (old new : Board) (text : List ℕ) → new ≡ old → text ≡ [] → AreAnswered g old [] new text
-nothing_said g old new text n t = record {
+pub nothing_said : (g : Roads) (old new : Board) (text : List ℕ) (sums sums' : Sums) → new ≡ old → text ≡ [] → sums' ≡ sums → AreFew old.fleet.version sums → AreAnswered g old [] new text sums sums'
+nothing_said g old new text sums sums' n t same few = record {
   entries = [];
   legal = n;
   asked = refl;
   at_once = tt;
   early = λ k now advanced e. cc;
   rendered = t;
+  counts = same;
+  small = subst (λ (b : Board). AreFew b.fleet.version sums') (sym n) (subst (λ (x : Sums). AreFew old.fleet.version x) (sym same) few);
   nodes = ap (λ (b : Board). b.nodes) n;
   few = let v : new.fleet.version ≡ old.fleet.version = ap (λ (b : Board). b.fleet.version) n in omega arith;
 }
@@ -299,26 +319,37 @@ good_still g old new r s h = subst (λ (b : Board). IsGoodFleet g b.fleet) (sym 
 pub version_next : (g : Roads) (old new : Board) (r : Request) (submitted : Submitted) → Step g old (Submit r submitted) new → new.fleet.version ≡ old.fleet.version + 1
 version_next g old new r submitted s = step_version g old new (Submit r submitted) s
 
+-- where the request is counted, its answer can be
+pub few_then : (g : Roads) (old new : Board) (r : Request) (before text : List ℕ) (submitted : Submitted) (sums sums' : Sums) → Step g old (Submit r submitted) new → AreFew old.fleet.version sums → IsTold (Submit r submitted) before text sums sums' → AreFew new.fleet.version sums'
+few_then g old new r before text submitted sums sums' s few t = few_behind g old new (Submit r submitted) sums sums' s few t.few
+
 -- the answer of a fleet is an entry
-pub committed : (g : Roads) (old new : Board) (r : Request) (d handed : Decision) (direct : ℕ) (before text : List ℕ) → old.nodes ≡ g.nodes → waiting_of old r.no ≡ Some (as_waiting r) → IsAnswerOf g old.fleet r d direct → handed ≡ d
-    → Commits old r.no handed direct new → text ≡ before ++ group (Commit r.no d) → IsCommitted g old r.no new before text
-committed g old new r d handed direct before text n w h same c t = record {
+pub committed : (g : Roads) (old new : Board) (r : Request) (d handed : Decision) (direct : ℕ) (before text : List ℕ) (sums sums' : Sums) → old.nodes ≡ g.nodes → waiting_of old r.no ≡ Some (as_waiting r) → IsAnswerOf g old.fleet r d direct → handed ≡ d
+    → Commits old r.no handed direct new → IsTold (Commit r.no d) before text sums sums'
+    → AreFew old.fleet.version sums → IsCommitted g old r.no new before text sums sums'
+committed g old new r d handed direct before text sums sums' n w h same c t few = record {
   decision = d;
-  step = subst (λ (x : Decision). Commits old r.no x direct new) same c g (as_waiting r) (sym n) w (answer_to g old r d direct h);
-  rendered = t;
+  step = step;
+  told = t;
+  small = few_behind g old new (Commit r.no d) sums sums' step few t.few;
 }
+  where
+    step : Step g old (Commit r.no d) new
+    step = subst (λ (x : Decision). Commits old r.no x direct new) same c g (as_waiting r) (sym n) w (answer_to g old r d direct h)
 
 -- a request was accepted, and answered
-pub taken : (g : Roads) (old mid new : Board) (r : Request) (before between text : List ℕ) → Step g old (Submit r Accepted) mid → before ≡ [] → between ≡ before ++ group (Submit r Accepted) → IsCommitted g mid r.no new between text
-    → AreAnswered g old (Ride r ∷ []) new text
-taken g old mid new r before between text s empty t c = record {
+pub taken : (g : Roads) (old mid new : Board) (r : Request) (before between text : List ℕ) (sums between_sums sums' : Sums) → Step g old (Submit r Accepted) mid → before ≡ [] → IsTold (Submit r Accepted) before between sums between_sums
+    → IsCommitted g mid r.no new between text between_sums sums' → AreAnswered g old (Ride r ∷ []) new text sums sums'
+taken g old mid new r before between text sums between_sums sums' s empty t c = record {
   entries = Submit r Accepted ∷ Commit r.no c.decision ∷ [];
   legal = (mid, s, (new, c.step, refl));
   asked = refl;
   at_once = (refl, tt);
   early = early_both;
-  rendered = c.rendered ∙ ap (λ (l : List ℕ). l ++ group (Commit r.no c.decision)) (t ∙ ap (λ (l : List ℕ). l ++ group (Submit r Accepted)) empty)
+  rendered = c.told.rendered ∙ ap (λ (l : List ℕ). l ++ group (Commit r.no c.decision)) (t.rendered ∙ ap (λ (l : List ℕ). l ++ group (Submit r Accepted)) empty)
       ∙ ap (λ (l : List ℕ). group (Submit r Accepted) ++ l) (sym (append-nil (group (Commit r.no c.decision))));
+  counts = c.told.counts ∙ ap (λ (x : Sums). counted (Commit r.no c.decision) x) t.counts;
+  small = c.small;
   nodes = step_nodes g mid new (Commit r.no c.decision) c.step ∙ step_nodes g old mid (Submit r Accepted) s;
   few = let v = step_version g old mid (Submit r Accepted) s in let w = step_version g mid new (Commit r.no c.decision) c.step in omega arith;
 }

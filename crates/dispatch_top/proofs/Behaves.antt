@@ -1,5 +1,5 @@
-use Rattle.std.proofs.Common.{◌≡◌, ℕ, List, Some, length, refl, sym, ap, ◌∙◌, arith, append-nil, take, inl, inr, true, ◌⊎◌, ◌≤◌, ◌++◌, ◌∷◌, [], zero, suc}
-use Rattle.command_words.specs.Commands.{Word, Form}
+use Rattle.std.proofs.Common.{◌≡◌, ℕ, List, Some, length, refl, inr, true}
+use Rattle.command_words.specs.Commands.{Form}
 use Rattle.ride_base.specs.Calls.{Call, Began, Says}
 use Rattle.dispatch_top.specs.declared.status.Status.{Status}
 use Rattle.dispatch_top.specs.declared.status.Status.TheVariants.{Done, NotYet, Usage, GraphText, FleetText, StreamText, ReadFault, WriteFault, NoMemory}

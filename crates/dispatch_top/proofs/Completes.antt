@@ -1,5 +1,5 @@
 use Rattle.std.proofs.Common.{◌≡◌, ◌⊎◌, ℕ, true, List, [], ◌∷◌, ◌++◌, Option, Some, Ok, refl, sym, ap, subst, ◌∙◌, inl, inr}
-use Rattle.command_words.specs.Commands.{Word, Form, Run, Walk, RunOptions}
+use Rattle.command_words.specs.Commands.{Word, Form, Run, Walk, Gen, RunOptions}
 use Rattle.ride_base.specs.Calls.{Call, IsSoOf, Says, Tells, ShelfFailed, SinkFailed}
 use Rattle.ride_base.specs.Outside.{Held, Text}
 use Rattle.road_graph.specs.Roads.{Roads}
@@ -150,6 +150,31 @@ module _ (c : Call) (graph : Word) (from to : ℕ) (good : AreGood c.old.shelf (
   walk_done (StreamText line) (inl h) r w = absurd h
   walk_done (StreamText line) (inr h) r w = absurd h.ends
 
+-- no text is refused where none is read
+none_refused : (names : List (List ℕ)) (status : Status) (c : Call) → Refuses names [] status c → ⊥
+none_refused names status c (read, stage, at, r) = none_before at.before at.after stage at.stands
+  where
+    none_before : (before after : List Stage) (stage : Stage) → [] ≡ before ++ stage ∷ after → ⊥
+    none_before [] after stage h = cc
+    none_before (x ∷ before) after stage h = cc
+
+module _ (c : Call) (number : ℕ) where
+  gen_done : (status : Status) → EndsForm true (Gen number) status c → (status ≡ ReadFault → ⊥) → (status ≡ WriteFault → ⊥) → (status ≡ Done) ⊎ (status ≡ NoMemory)
+  gen_done Done h r w = inl refl
+  gen_done NoMemory h r w = inr refl
+  gen_done ReadFault h r w = absurd (r refl)
+  gen_done WriteFault h r w = absurd (w refl)
+  gen_done Usage (inl h) r w = absurd h
+  gen_done Usage (inr h) r w = absurd h.ends
+  gen_done (GraphText line) (inl h) r w = absurd (none_refused [] (GraphText line) c h)
+  gen_done (GraphText line) (inr h) r w = absurd h.ends
+  gen_done (FleetText row) (inl h) r w = absurd (none_refused [] (FleetText row) c h)
+  gen_done (FleetText row) (inr h) r w = absurd h.ends
+  gen_done NotYet (inl h) r w = absurd h
+  gen_done NotYet (inr h) r w = absurd h.ends
+  gen_done (StreamText line) (inl h) r w = absurd h
+  gen_done (StreamText line) (inr h) r w = absurd h.ends
+
 -- where neither the shelf nor the sink failed, all was answered, or memory was wanted
 pub run_completes : (c : Call) (graph fleet stream : Word) (options : RunOptions) (status : Status) → EndsForm true (Run graph fleet stream options) status c → Behaves (Some (Run graph fleet stream options)) status c
     → IsComplete (Some (Run graph fleet stream options)) status c
@@ -160,6 +185,9 @@ pub walk_completes : (c : Call) (graph : Word) (from to : ℕ) (status : Status)
     → IsComplete (Some (Walk graph from to)) status c
 walk_completes c graph from to status h b = λ answered good shelf sink.
     walk_done c graph from to good status h (no_read_fault c status b.cause shelf) (no_write_fault c status b.cause sink)
+
+pub gen_completes : (c : Call) (number : ℕ) (status : Status) → EndsForm true (Gen number) status c → Behaves (Some (Gen number)) status c → IsComplete (Some (Gen number)) status c
+gen_completes c number status h b = λ answered good shelf sink. gen_done c number status h (no_read_fault c status b.cause shelf) (no_write_fault c status b.cause sink)
 
 -- of a form by the words, and of its status
 pub completes_as : (form : Option Form) (known : Form) (c : Call) (status ended : Status) → form ≡ Some known → status ≡ ended → IsComplete (Some known) ended c → IsComplete form status c

@@ -1,4 +1,4 @@
-use Rattle.std.proofs.Common.{◌≡◌, ℕ, zero, suc, ◌+◌, ◌*◌, ◌<◌, ◌≤◌, ◌^◌, List, [], ◌∷◌, ◌++◌, Some, refl, sym, ap, subst, ◌∙◌, arith, append_assoc, append-nil, length, length-append, inl, inr, ◌⊎◌}
+use Rattle.std.proofs.Common.{◌≡◌, ℕ, zero, suc, ◌≤◌, List, [], ◌∷◌, ◌++◌, Some, refl, sym, ap, subst, ◌∙◌, arith, append_assoc, length, length-append, inl, inr, ◌⊎◌}
 use Rattle.std.specs.Prelude.{slice_get}
 use Rattle.ride_base.specs.Pieces.{largest_text}
 use Rattle.road_graph.specs.Roads.{Roads}
@@ -18,8 +18,11 @@ use Rattle.board_core.specs.Promises.{KeepsPromises}
 use Rattle.board_core.proofs.HistoryLaws.{legal_append}
 use Rattle.journal_text.specs.Groups.{group, journal_of}
 use Rattle.dispatch_top.specs.Answering.{AreAnswered, IsReady}
-use Rattle.dispatch_top.specs.Dispatching.{HasAnswered, HistoriesAreGood, IsOpening}
+use Rattle.dispatch_top.specs.Dispatching.{HasAnswered, HistoriesAreGood}
+use Rattle.dispatch_top.specs.declared.sums.Sums.{Sums}
+use Rattle.dispatch_top.specs.GenMode.{AreSumsOf}
 use Rattle.dispatch_top.specs.Histories.{IsHistoryOf}
+use Rattle.dispatch_top.specs.Sums.{counted, counted_on, no_sums}
 
 -- What is answered on a board since its vehicles were at their starts.
 
@@ -70,11 +73,15 @@ early_more a b h k = λ n now advanced e. on n now advanced (in_both a b n (Adva
     on n now advanced (inl e) = h n now advanced e
     on n now advanced (inr e) = k e.0 now advanced e.1
 
+counted_more : (sums : Sums) (a b : List Entry) → counted_on sums (a ++ b) ≡ counted_on (counted_on sums a) b
+counted_more sums [] b = refl
+counted_more sums (e ∷ a) b = counted_more (counted e sums) a b
+
 -- ---- since the start
 
 module _ (roads : Roads) (law : HistoriesAreGood roads) (first : Board) where
   -- nothing was answered yet
-  pub none_yet : (rates : Rates) (vehicles : List Vehicle) → AreVehicles roads.nodes vehicles → first ≡ opening_board roads.nodes rates vehicles → HasAnswered roads first first [] []
+  pub none_yet : (rates : Rates) (vehicles : List Vehicle) → AreVehicles roads.nodes vehicles → first ≡ opening_board roads.nodes rates vehicles → HasAnswered roads first first [] [] no_sums
   none_yet rates vehicles good is = record {
     opening = record { rates = rates; vehicles = vehicles; good = good; is = is };
     history = [];
@@ -84,15 +91,17 @@ module _ (roads : Roads) (law : HistoriesAreGood roads) (first : Board) where
     early = λ k now advanced e. cc;
     kept = subst (λ (b : Board). KeepsPromises roads b []) (sym is) (law.kept rates vehicles [] (opening_board roads.nodes rates vehicles) good refl);
     rendered = refl;
+    counts = refl;
+    small = record { requests = omega arith; assigned = omega arith; nobody = omega arith; cost = omega arith };
     good = subst (λ (b : Board). IsGoodFleet roads b.fleet) (sym is) (law.good rates vehicles [] (opening_board roads.nodes rates vehicles) good (λ k now advanced e. cc) refl);
     nodes = ap (λ (b : Board). b.nodes) is;
     few = omega (arith, ap (λ (b : Board). b.fleet.version) is);
   }
 
   -- further events were answered
-  pub answered_more : (old new : Board) (events more : List Event) (printed text : List ℕ) → HasAnswered roads first old events printed → AreAnswered roads old more new text
-      → HasAnswered roads first new (events ++ more) (printed ++ text)
-  answered_more old new events more printed text h a =
+  pub answered_more : (old new : Board) (events more : List Event) (printed text : List ℕ) (sums sums' : Sums) → HasAnswered roads first old events printed sums → AreAnswered roads old more new text sums sums'
+      → HasAnswered roads first new (events ++ more) (printed ++ text) sums'
+  answered_more old new events more printed text sums sums' h a =
       let below = h.few in
       let above = a.few in
       let early = early_more h.history a.entries h.early a.early in
@@ -107,19 +116,38 @@ module _ (roads : Roads) (law : HistoriesAreGood roads) (first : Board) where
         early = early;
         kept = subst (λ (b : Board). KeepsPromises roads b (h.history ++ a.entries)) (sym h.opening.is) (law.kept h.opening.rates h.opening.vehicles (h.history ++ a.entries) new h.opening.good from);
         rendered = ap (λ (l : List ℕ). l ++ text) h.rendered ∙ ap (λ (l : List ℕ). journal_of h.history ++ l) a.rendered ∙ sym (journal_more h.history a.entries);
+        counts = a.counts ∙ ap (λ (x : Sums). counted_on x a.entries) h.counts ∙ sym (counted_more no_sums h.history a.entries);
+        small = a.small;
         good = law.good h.opening.rates h.opening.vehicles (h.history ++ a.entries) new h.opening.good early from;
         nodes = a.nodes ∙ h.nodes;
         few = omega (arith, length-append events more);
       }
 
 -- the board is ready for what is asked next
-pub ready_on : (roads : Roads) (first now : Board) (events : List Event) (printed : List ℕ) → HasAnswered roads first now events printed → length events ≤ largest_text → IsReady roads now
-ready_on roads first now events printed h f = let few = h.few in record { nodes = h.nodes; good = h.good; early = omega arith }
+pub ready_on : (roads : Roads) (first now : Board) (events : List Event) (printed : List ℕ) (sums : Sums) → HasAnswered roads first now events printed sums → length events ≤ largest_text → IsReady roads now
+ready_on roads first now events printed sums h f = let few = h.few in record { nodes = h.nodes; good = h.good; early = omega arith }
 
--- what was printed of the history since
-pub is_history : (roads : Roads) (rates : Rates) (vehicles : List Vehicle) (first now : Board) (events : List Event) (printed : List ℕ) → first ≡ opening_board roads.nodes rates vehicles → HasAnswered roads first now events printed
+-- what was printed of the history since, and what was counted of it
+pub are_sums : (roads : Roads) (rates : Rates) (vehicles : List Vehicle) (first now : Board) (events : List Event) (printed : List ℕ) (sums : Sums) → first ≡ opening_board roads.nodes rates vehicles
+    → HasAnswered roads first now events printed sums → AreSumsOf roads rates vehicles events sums
+are_sums roads rates vehicles first now events printed sums is h = record {
+  printed = printed;
+  account = record {
+    history = h.history;
+    last = now;
+    legal = subst (λ (b : Board). Legal roads b h.history now) is h.legal;
+    asked = h.asked;
+    at_once = h.at_once;
+    kept = subst (λ (b : Board). KeepsPromises roads b h.history) is h.kept;
+    rendered = h.rendered;
+  };
+  counts = h.counts;
+}
+
+-- what was printed of it
+pub is_history : (roads : Roads) (rates : Rates) (vehicles : List Vehicle) (first now : Board) (events : List Event) (printed : List ℕ) (sums : Sums) → first ≡ opening_board roads.nodes rates vehicles → HasAnswered roads first now events printed sums
     → IsHistoryOf roads rates vehicles events printed
-is_history roads rates vehicles first now events printed is h = record {
+is_history roads rates vehicles first now events printed sums is h = record {
   history = h.history;
   last = now;
   legal = subst (λ (b : Board). Legal roads b h.history now) is h.legal;

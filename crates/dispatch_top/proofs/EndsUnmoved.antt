@@ -39,7 +39,7 @@ module _ (c : Call) (unnamed : c.new.shelf.names ≡ c.old.shelf.names) (took : 
   ends_form (Run graph fleet stream options) = ends_run (is_plain options) graph fleet stream options
   ends_form (Audit graph fleet journal rates) = inr refl
   ends_form (Walk graph from to) = inl (at_first graph [] [])
-  ends_form (Gen number) = inr refl
+  ends_form (Gen number) = inr (record { read = record { roads = record { nodes = 0; roads = [] }; vehicles = [] }; are_read = tt; began = inl (unnamed ∙ sym (append-nil c.old.shelf.names)); ends = took })
   ends_form (Live graph fleet stream rates workers) = inr refl
 
   pub ends_unread : (form : Option Form) → Ends form NoMemory c

@@ -7,6 +7,7 @@ mod EndsStream
 mod EndsUnmoved
 mod EventsFrom
 mod IsErr
+mod MadeCities
 mod Moves
 mod NoWalkOutside
 mod OnItsWay

@@ -1,7 +1,7 @@
-use Rattle.std.proofs.Common.{◌≡◌, ◌≢◌, ◌⊎◌, ℕ, zero, suc, ◌+◌, ◌<◌, ◌≤◌, ◌^◌, ◌-◌, true, false, List, [], ◌∷◌, ◌++◌, refl, sym, ap, subst, ◌∙◌, arith, append_assoc, append-nil, inl, inr, take, length, length-append}
+use Rattle.std.proofs.Common.{◌≡◌, ◌⊎◌, ℕ, zero, suc, ◌+◌, ◌<◌, ◌≤◌, true, List, [], ◌∷◌, ◌++◌, refl, sym, ap, ◌∙◌, arith, append_assoc, append-nil, inl, inr, take, length, length-append}
 use Rattle.std.proofs.lemmas.Bool.{cases_lt}
 use Rattle.ride_base.specs.Calls.{AreHeld}
-use Rattle.ride_base.specs.Outside.{Held, Absent, AddsName, CountRose, CountStays, OnlyRead, Rose, ShelfState, SinkCountRose, SinkCountStays, SinkState}
+use Rattle.ride_base.specs.Outside.{Held, Absent, AddsName, CountRose, CountStays, Rose, ShelfState, SinkState}
 use Rattle.ride_base.proofs.ShelfLaws.{only_read-trans}
 use Rattle.dispatch_top.specs.Moves.{ReadsNames, ReadsOn, Writes}
 

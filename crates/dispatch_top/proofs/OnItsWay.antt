@@ -1,9 +1,9 @@
-use Rattle.std.proofs.Common.{◌≡◌, ◌⊎◌, ℕ, suc, length-append, ◌+◌, ◌<◌, ◌≤◌, List, [], ◌∷◌, ◌++◌, true, false, Option, Some, None, Result, Ok, Err, refl, sym, ap, subst, ◌∙◌, arith, append_assoc, append-nil, position, length, take, inl, inr}
+use Rattle.std.proofs.Common.{◌≡◌, ◌⊎◌, ℕ, suc, length-append, ◌+◌, ◌≤◌, List, [], ◌∷◌, ◌++◌, true, false, Option, Some, None, Result, Ok, Err, refl, sym, ap, subst, ◌∙◌, arith, append_assoc, append-nil, position, length, take, inl, inr}
 use Rattle.std.specs.Prelude.{is_some, ◌==◌}
 use Rattle.std.proofs.lemmas.Bool.{eqb-true}
 use Rattle.ride_base.specs.Outside.{ShelfState, Takes, TakesPrefix}
 use Rattle.ride_base.specs.Pieces.{Piece, Whole, TooLong, TooLarge, pieces, after_line, is_line_end, is_ended, ended_lines, largest_text}
-use Rattle.ride_base.specs.Prefixes.{HasGivenMore, HasReadGiven, IsReadWithLines, AreGiven}
+use Rattle.ride_base.specs.Prefixes.{IsReadWithLines, AreGiven}
 use Rattle.ride_base.specs.Reader.{Reader}
 use Rattle.ride_base.specs.Reading.{TellsLine, unread}
 use Rattle.ride_base.specs.Told.{WhereTold}
@@ -15,13 +15,12 @@ use Rattle.input_tables.specs.declared.lines.StreamLine.{StreamLine}
 use Rattle.input_tables.specs.declared.lines.StreamLine.TheVariants as kind
 use Rattle.input_tables.specs.Streams.{stream_line_of}
 use Rattle.board_core.specs.Histories.{Event}
-use Rattle.dispatch_top.specs.declared.stops.OutputStop.{OutputStop}
 use Rattle.dispatch_top.specs.declared.stops.StreamExit.{StreamExit}
 use Rattle.dispatch_top.specs.declared.stops.StreamExit.TheVariants as exit
 use Rattle.dispatch_top.specs.declared.stream.Next.TheVariants as next
 use Rattle.dispatch_top.specs.Answerers.{GoesOn, HasAsked, HasFew, HasGone, IsFresh}
-use Rattle.dispatch_top.specs.Histories.{Account, AreAnsweredAs, AreEventsRead, EndsAt, EndsEarly}
-use Rattle.dispatch_top.specs.Streaming.{GivesLine, GivesNext, IsPastLimit, Streamed}
+use Rattle.dispatch_top.specs.Histories.{AreAnsweredAs, AreEventsRead, EndsAt, EndsEarly}
+use Rattle.dispatch_top.specs.Streaming.{GivesLine, GivesNext, Streamed}
 use Rattle.dispatch_top.specs.Streams.{Events, AtEnd, AtBad, StreamEnd, events_from, events_of, events_said, from_line, onto, no_more}
 use Rattle.dispatch_top.proofs.EventsFrom.{AreEventsBefore, AreEventsBeforeUnread, events_behind, nothing_read, events_left, one_line_more, unread_from}
 use Rattle.dispatch_top.proofs.Told.{told_so}

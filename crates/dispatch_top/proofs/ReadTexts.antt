@@ -24,7 +24,7 @@ use Rattle.dispatch_top.specs.declared.stops.TextStop.TheVariants.{Refused, Read
 use Rattle.dispatch_top.specs.Forms.{Stage, GraphText as GraphStage, FleetText as FleetStage}
 use Rattle.dispatch_top.specs.Reading.{Read, EndsReading, IsBadAt, IsBadAtRow, row_of}
 use Rattle.dispatch_top.specs.Stops.{status_of_reading, stop_of_begin, stop_of_graph, stop_of_fleet}
-use Rattle.dispatch_top.specs.Texts.{AreTexts, IsFleetOf, IsGraphOf, StopsFleet, StopsGraph, StopsText, StopsTexts}
+use Rattle.dispatch_top.specs.Texts.{AreTexts, IsFleetOf, IsGraphOf, StopsFleet, StopsGraph, StopsText}
 use Rattle.dispatch_top.specs.Moves.{ReadsNames}
 use Rattle.dispatch_top.proofs.Moves.{reads_nothing, reads_unbegun}
 use Rattle.dispatch_top.proofs.Told.{of_held, told_so}

@@ -1,11 +1,10 @@
-use Rattle.std.proofs.Common.{◌≡◌, ◌≢◌, ◌⊎◌, ℕ, zero, suc, ◌≤◌, true, false, List, [], ◌∷◌, ◌++◌, None, Result, Ok, Err, refl, sym, ap, ◌∙◌, arith, append_assoc, append-nil, take, length, inl, inr}
-use Rattle.command_words.specs.Commands.{Word, Run, Walk}
-use Rattle.ride_base.specs.Calls.{Call, Says, TookNothing, call_of}
+use Rattle.std.proofs.Common.{◌≡◌, ◌≢◌, ℕ, zero, suc, ◌≤◌, true, false, List, [], ◌∷◌, ◌++◌, None, Result, Ok, Err, refl, sym, ap, ◌∙◌, arith, append_assoc, append-nil, take, inl, inr}
+use Rattle.command_words.specs.Commands.{Word, Run, Walk, Gen}
+use Rattle.ride_base.specs.Calls.{Call, call_of}
 use Rattle.ride_base.specs.Outside.{AddsName, ShelfState, SinkState}
 use Rattle.road_graph.specs.Roads.{Roads}
 use Rattle.stop_schedule.specs.declared.vehicle.Vehicle.{Vehicle}
 use Rattle.stop_schedule.specs.Rates.{Rates}
-use Rattle.dispatch_top.specs.declared.status.Status.{Status}
 use Rattle.dispatch_top.specs.declared.status.Status.TheVariants as status
 use Rattle.dispatch_top.specs.declared.stops.OutputStop.{OutputStop}
 use Rattle.dispatch_top.specs.declared.stops.OutputStop.TheVariants.{WriteFault, NoMemory}
@@ -15,12 +14,13 @@ use Rattle.dispatch_top.specs.declared.stops.StreamExit.{StreamExit}
 use Rattle.dispatch_top.specs.declared.stops.StreamExit.TheVariants.{AtEnd, AtBad, AtFault}
 use Rattle.dispatch_top.specs.declared.stops.TextStop.TheVariants.{Refused, ReadFault as TextFault, NoMemory as TextMemory}
 use Rattle.dispatch_top.specs.Ends.{EndsForm, HasBegun}
+use Rattle.dispatch_top.specs.GenMode.{WritesSummary}
 use Rattle.dispatch_top.specs.Histories.{IsHistoryOf}
 use Rattle.dispatch_top.specs.Moves.{ReadsNames}
-use Rattle.dispatch_top.specs.Stops.{status_of_output, status_of_reading, status_of_stream, status_of_written}
+use Rattle.dispatch_top.specs.Stops.{status_of_reading, status_of_stream, status_of_written}
 use Rattle.dispatch_top.specs.Streaming.{EndsStream}
 use Rattle.dispatch_top.specs.Texts.{AreTexts, IsGraphOf}
-use Rattle.dispatch_top.specs.WalkMode.{EndsWalk, WritesWalk}
+use Rattle.dispatch_top.specs.WalkMode.{WritesWalk}
 use Rattle.dispatch_top.proofs.Behaves.{ends_behind}
 use Rattle.dispatch_top.proofs.EndsStream.{ends_later}
 
@@ -99,3 +99,14 @@ ends_walk old new sink sink' name from to roads graph named (Err WriteFault) w =
     ends_behind (Walk name from to) (call_of old sink new sink') (record { roads = roads; vehicles = [] }) status.WriteFault (graph, tt) named w
 ends_walk old new sink sink' name from to roads graph named (Err NoMemory) w =
     ends_behind (Walk name from to) (call_of old sink new sink') (record { roads = roads; vehicles = [] }) status.NoMemory (graph, tt) (inl named) w
+
+-- ---- a made city
+
+pub ends_gen : (shelf : ShelfState) (sink sink' : SinkState) (number : ℕ) (result : Result (Unit {0}) OutputStop) → WritesSummary number result sink.taken sink'.taken
+    → EndsForm true (Gen number) (status_of_written result) (call_of shelf sink shelf sink')
+ends_gen shelf sink sink' number (Ok done) w =
+    ends_behind (Gen number) (call_of shelf sink shelf sink') (record { roads = record { nodes = 0; roads = [] }; vehicles = [] }) status.Done tt (sym (append-nil shelf.names)) w
+ends_gen shelf sink sink' number (Err WriteFault) w =
+    ends_behind (Gen number) (call_of shelf sink shelf sink') (record { roads = record { nodes = 0; roads = [] }; vehicles = [] }) status.WriteFault tt (sym (append-nil shelf.names)) w
+ends_gen shelf sink sink' number (Err NoMemory) w =
+    ends_behind (Gen number) (call_of shelf sink shelf sink') (record { roads = record { nodes = 0; roads = [] }; vehicles = [] }) status.NoMemory tt (inl (sym (append-nil shelf.names))) w

@@ -1,4 +1,4 @@
-use Rattle.std.proofs.Common.{◌≡◌, ℕ, List, Option, Some, None, subst}
+use Rattle.std.proofs.Common.{ℕ, List, Option, Some, None, subst}
 use Rattle.ride_base.specs.Calls.{IsSoOf}
 use Rattle.ride_base.specs.Outside.{Held, Untold, Absent, Text, IsAllOf}
 use Rattle.ride_base.specs.Told.{WhereTold}

@@ -12,6 +12,8 @@ use Rattle.board_core.specs.Histories.{Legal, Event, events_in, AreAnsweredAtOnc
 use Rattle.board_core.specs.Laws.{HasEarlyMoves}
 use Rattle.board_core.specs.Steps.{Step}
 use Rattle.journal_text.specs.Groups.{group, journal_of}
+use Rattle.dispatch_top.specs.declared.sums.Sums.{Sums}
+use Rattle.dispatch_top.specs.Sums.{AreFew, counted, counted_on}
 
 -- What is answered on a board over a graph.
 
@@ -25,21 +27,30 @@ pub record IsReady (g : Roads) (b : Board) : Type 0 where
   pub good : IsGoodFleet g b.fleet
   pub early : b.fleet.version < 2 ^ 61
 
--- The request of a number got its answer, and the lines of that entry came behind a text.
-pub record IsCommitted (g : Roads) (old : Board) (number : RequestNo) (new : Board) (text text' : List ℕ) : Type 0 where
+-- An entry's lines came behind a text, and it was counted.
+pub record IsTold (e : Entry) (text text' : List ℕ) (sums sums' : Sums) : Type 0 where
+  pub rendered : text' ≡ text ++ group e
+  pub counts : sums' ≡ counted e sums
+  pub few : (n : ℕ) → AreFew n sums → AreFew (n + 1) sums'
+
+-- The request of a number got its answer, and that was told.
+pub record IsCommitted (g : Roads) (old : Board) (number : RequestNo) (new : Board) (text text' : List ℕ) (sums sums' : Sums) : Type 0 where
   pub decision : Decision
   pub step : Step g old (Commit number decision) new
-  pub rendered : text' ≡ text ++ group (Commit number decision)
+  pub told : IsTold (Commit number decision) text text' sums sums'
+  pub small : AreFew new.fleet.version sums'
 
 -- These events were answered: their entries are lawful one after another from the old board on and leave the new one, each request that
--- was accepted has its answer at once, and the text is the lines of the entries.
-pub record AreAnswered (g : Roads) (old : Board) (events : List Event) (new : Board) (text : List ℕ) : Type 0 where
+-- was accepted has its answer at once, the text is the lines of the entries, and they were counted.
+pub record AreAnswered (g : Roads) (old : Board) (events : List Event) (new : Board) (text : List ℕ) (sums sums' : Sums) : Type 0 where
   pub entries : List Entry
   pub legal : Legal g old entries new
   pub asked : events_in entries ≡ events
   pub at_once : AreAnsweredAtOnce entries
   pub early : HasEarlyMoves entries
   pub rendered : text ≡ journal_of entries
+  pub counts : sums' ≡ counted_on sums entries
+  pub small : AreFew new.fleet.version sums'
   pub nodes : new.nodes ≡ old.nodes
   pub few : new.fleet.version ≤ old.fleet.version + 2 * length events
 

@@ -1,5 +1,5 @@
 use Rattle.std.specs.Prelude.{◌≡◌, false, Option, Some, None}
-use Rattle.command_words.specs.Commands.{Form, Run, Walk}
+use Rattle.command_words.specs.Commands.{Form, Run, Walk, Gen}
 use Rattle.dispatch_top.specs.declared.words.RunNames.{RunNames}
 use Rattle.dispatch_top.specs.declared.words.Task.{Task}
 use Rattle.dispatch_top.specs.declared.words.Task.TheVariants as task
@@ -18,5 +18,6 @@ IsLater (Some form) = is_answered form ≡ false
 abbrev pub AsksFor : Task → Option Form → Type 0
 AsksFor (task.Run asked) form = form ≡ Some (run_form asked)
 AsksFor (task.Walk graph from to) form = form ≡ Some (Walk graph.now from to)
+AsksFor (task.Gen number) form = form ≡ Some (Gen number)
 AsksFor task.Later form = IsLater form
 AsksFor task.Unknown form = form ≡ None

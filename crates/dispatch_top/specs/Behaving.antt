@@ -1,4 +1,4 @@
-use Rattle.std.specs.Prelude.{◌≡◌, ◌⊎◌, ℕ, true, List, [], Option, Some, None}
+use Rattle.std.specs.Prelude.{◌≡◌, ◌⊎◌, true, List, [], Option, Some, None}
 use Rattle.command_words.specs.Commands.{Word, Form, Run, Audit, Walk, Gen, Live}
 use Rattle.ride_base.specs.Calls.{Call, Tells, AreHeld, BeganFirst, Stays, ShelfFailed, SinkFailed}
 use Rattle.ride_base.specs.Outside.{ShelfState}

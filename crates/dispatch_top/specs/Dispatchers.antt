@@ -14,7 +14,7 @@ use Rattle.dispatch_top.specs.Dispatching.{HasAnswered}
 pub record HasDispatched (first now : Dispatcher) (events : List Event) (printed : List ℕ) : Type 0 where
   pub graph : now.graph.now ≡ first.graph.now
   pub prices : now.answers.graph.now ≡ first.graph.now
-  pub answered : HasAnswered first.graph.now (board_of first.board) (board_of now.board) events printed
+  pub answered : HasAnswered first.graph.now (board_of first.board) (board_of now.board) events printed now.sums
 
 -- it is over this graph, and its board is the opening board of these vehicles
 pub record IsOpened (roads : Roads) (rates : Rates) (vehicles : List Vehicle) (made : Dispatcher) : Type 0 where

@@ -10,6 +10,8 @@ use Rattle.board_core.specs.Histories.{Legal, Event, events_in, AreAnsweredAtOnc
 use Rattle.board_core.specs.Laws.{HasEarlyMoves}
 use Rattle.board_core.specs.Promises.{KeepsPromises}
 use Rattle.journal_text.specs.Groups.{journal_of}
+use Rattle.dispatch_top.specs.declared.sums.Sums.{Sums}
+use Rattle.dispatch_top.specs.Sums.{AreFew, sums_of}
 
 -- What is dispatched on a board that begins with vehicles at their starts.
 
@@ -29,8 +31,8 @@ pub record IsOpening (roads : Roads) (board : Board) : Type 0 where
   pub is : board ≡ opening_board roads.nodes rates vehicles
 
 -- From an opening board on to another these events were answered, each request that was accepted at once, by a legal history that keeps
--- each promise, and the text is its lines.
-pub record HasAnswered (roads : Roads) (first now : Board) (events : List Event) (printed : List ℕ) : Type 0 where
+-- each promise, the text is its lines, and the sums are those of it.
+pub record HasAnswered (roads : Roads) (first now : Board) (events : List Event) (printed : List ℕ) (sums : Sums) : Type 0 where
   pub opening : IsOpening roads first
   pub history : List Entry
   pub legal : Legal roads first history now
@@ -39,6 +41,8 @@ pub record HasAnswered (roads : Roads) (first now : Board) (events : List Event)
   pub early : HasEarlyMoves history
   pub kept : KeepsPromises roads first history
   pub rendered : printed ≡ journal_of history
+  pub counts : sums ≡ sums_of history
+  pub small : AreFew now.fleet.version sums
   pub good : IsGoodFleet roads now.fleet
   pub nodes : now.nodes ≡ roads.nodes
   pub few : now.fleet.version ≤ 2 * length events

@@ -4,6 +4,7 @@ use Rattle.ride_base.specs.Calls.{Call, Says, Began}
 use Rattle.dispatch_top.specs.declared.status.Status.{Status}
 use Rattle.dispatch_top.specs.declared.status.Status.TheVariants.{Usage, NotYet, NoMemory}
 use Rattle.dispatch_top.specs.Forms.{is_answered, names_of, stages_of}
+use Rattle.dispatch_top.specs.GenMode.{EndsGen}
 use Rattle.dispatch_top.specs.Reading.{Read, AreRead, EndsReading}
 use Rattle.dispatch_top.specs.RunMode.{EndsRun}
 use Rattle.dispatch_top.specs.WalkMode.{EndsWalk}
@@ -15,7 +16,7 @@ abbrev pub EndsMode : Form → Read → Status → Call → Type 0
 EndsMode (Run graph fleet stream options) read status c = EndsRun options.rates stream read status c
 EndsMode (Walk graph from to) read status c = EndsWalk from to read status c
 EndsMode (Audit graph fleet journal rates) read status c = ⊥
-EndsMode (Gen number) read status c = ⊥
+EndsMode (Gen number) read status c = EndsGen number status c
 EndsMode (Live graph fleet stream rates workers) read status c = ⊥
 
 -- all names were begun; where memory was wanted, perhaps not the last one

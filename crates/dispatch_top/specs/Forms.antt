@@ -54,7 +54,7 @@ abbrev pub is_answered : Form → Bool
 is_answered (Run graph fleet stream options) = is_plain options
 is_answered (Audit graph fleet journal rates) = false
 is_answered (Walk graph from to) = true
-is_answered (Gen number) = false
+is_answered (Gen number) = true
 is_answered (Live graph fleet stream rates workers) = false
 
 run_names : option_map names_of (run_asks (codes "run" ∷ codes "g" ∷ codes "f" ∷ codes "s" ∷ [])) ≡ Some (codes "g" ∷ codes "f" ∷ codes "s" ∷ [])

@@ -7,6 +7,7 @@ pub mod Dispatchers
 pub mod Dispatching
 pub mod Ends
 pub mod Forms
+pub mod GenMode
 pub mod Histories
 pub mod Moves
 pub mod Reading
@@ -14,5 +15,6 @@ pub mod RunMode
 pub mod Stops
 pub mod Streaming
 pub mod Streams
+pub mod Sums
 pub mod Texts
 pub mod WalkMode

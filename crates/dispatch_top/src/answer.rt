@@ -7,12 +7,13 @@ ghost use Rattle.board_core.specs.BoardViews.{board_of};
 ghost use Rattle.board_core.specs.Boards.{waiting_of};
 ghost use Rattle.board_core.specs.FleetViews.{cars_of};
 ghost use Rattle.board_core.specs.Histories.{Ride, Move, Withdraw};
-ghost use Rattle.dispatch_top.specs.Answering.{AreAnswered, IsCommitted, IsReady};
+ghost use Rattle.dispatch_top.specs.Answering.{AreAnswered, IsCommitted, IsReady, IsTold};
+ghost use Rattle.dispatch_top.specs.Sums.{AreFew, HasRoom};
 ghost use Rattle.board_core.specs.declared.entry.Entry.TheVariants as entry;
-ghost use Rattle.journal_text.specs.Groups.{group};
 ghost use Rattle.journal_text.specs.Printable.{IsPrintable};
 ghost use Rattle.dispatch_top.specs.Answering.{answer_told, as_waiting};
 
+use crate::sums::Sums;
 use crate::walker::GraphWalker;
 use board_core::{Board, Entry, Fleet, Submitted, answers_are_possible};
 use insertion_cost::{Decision, PlainAnswers};
@@ -39,20 +40,34 @@ fn decide<L>(
     answers.answer(alloc, fleet, request, steps)
 }
 
-/// Adds the lines of a request's answer to a text, and hands the answer back.
+/// Adds the lines of an entry to a text, and counts the entry.
+fn tell(alloc: Global, entry: &Entry, text: &mut Vec<u8>, sums: &mut Sums) -> Result<(), NoMemory>
+    requires printable { IsPrintable entry.now }
+    requires room { HasRoom sums.old }
+    ensures { OnOk result
+        (IsTold entry.now text.old.items text.new.items sums.old sums.new) }
+{
+    render(alloc, entry, text)?;
+    sums.count(entry);
+    Ok(())
+}
+
+/// Tells a request's answer, and hands it back.
 fn tell_answer(
     alloc: Global,
     no: RequestNo,
     decision: Decision,
     text: &mut Vec<u8>,
+    sums: &mut Sums,
 ) -> Result<Decision, NoMemory>
-    requires { IsPrintable (entry.Commit no decision) }
+    requires printable { IsPrintable (entry.Commit no decision) }
+    requires room { HasRoom sums.old }
     ensures answer { IfOk result (λ told. told ≡ decision) }
-    ensures text { OnOk result
-        (text.new.items ≡ text.old.items ++ group (entry.Commit no decision)) }
+    ensures told { OnOk result (IsTold (entry.Commit no decision)
+        text.old.items text.new.items sums.old sums.new) }
 {
     let entry = Entry::Commit(no, decision);
-    render(alloc, &entry, text)?;
+    tell(alloc, &entry, text, sums)?;
     Ok(answer_in(entry).unwrap())
 }
 
@@ -74,6 +89,7 @@ fn answer_waiting<L>(
     board: &mut Board<NoIndex>,
     request: &Request,
     text: &mut Vec<u8>,
+    sums: &mut Sums,
     steps: &mut Steps<L>,
 ) -> Result<(), NoMemory>
     requires prices { answers.old.graph.now ≡ graph.now }
@@ -83,22 +99,23 @@ fn answer_waiting<L>(
     requires request { IsRequestIn graph.now request.now }
     requires waits { waiting_of (board_of board.old) request.now.no
         ≡ Some (as_waiting request.now) }
+    requires few { AreFew (board_of board.old).fleet.version sums.old }
     ensures same { answers.new.graph.now ≡ answers.old.graph.now }
     ensures committed { OnOk result (IsCommitted graph.now (board_of board.old) request.now.no
-        (board_of board.new) text.old.items text.new.items) }
+        (board_of board.new) text.old.items text.new.items sums.old sums.new) }
 {
     answers_are_possible();
     graph.nodes();
     let (decision, direct) = decide(alloc, answers, board.fleet(), request, steps)?;
-    let decision = tell_answer(alloc, request.no, decision, text)?;
+    let decision = tell_answer(alloc, request.no, decision, text, sums)?;
     match board.apply(alloc, request.no, decision, direct, steps) {
         Ok(()) => Ok(()),
         Err(_) => Err(AllocError),
     }
 }
 
-/// Submits a request, and answers it where it is accepted. The lines of its entries are added to an empty text. After an error the
-/// board is of no use.
+/// Submits a request, and answers it where it is accepted. The lines of its entries are added to an empty text, and they are counted.
+/// After an error the board is of no use.
 pub(crate) fn answer_ride<L>(
     alloc: Global,
     graph: &Graph,
@@ -106,20 +123,24 @@ pub(crate) fn answer_ride<L>(
     board: &mut Board<NoIndex>,
     request: &Request,
     text: &mut Vec<u8>,
+    sums: &mut Sums,
     steps: &mut Steps<L>,
 ) -> Result<(), NoMemory>
     requires prices { answers.old.graph.now ≡ graph.now }
     requires ready { IsReady graph.now (board_of board.old) }
+    requires few { AreFew (board_of board.old).fleet.version sums.old }
     requires empty { text.old.items ≡ [] }
     ensures same { answers.new.graph.now ≡ answers.old.graph.now }
     ensures answered { OnOk result (AreAnswered graph.now (board_of board.old)
-        (Ride request.now ∷ []) (board_of board.new) text.new.items) }
+        (Ride request.now ∷ []) (board_of board.new) text.new.items sums.old sums.new) }
 {
     let submitted = board.submit(*request)?;
-    render(alloc, &Entry::Submit(*request, submitted), text)?;
+    tell(alloc, &Entry::Submit(*request, submitted), text, sums)?;
     match submitted {
         Submitted::Refused(_) => Ok(()),
-        Submitted::Accepted => answer_waiting(alloc, graph, answers, board, request, text, steps),
+        Submitted::Accepted => {
+            answer_waiting(alloc, graph, answers, board, request, text, sums, steps)
+        },
     }
 }
 
@@ -129,16 +150,18 @@ pub(crate) fn answer_move<L>(
     board: &mut Board<NoIndex>,
     now: u64,
     text: &mut Vec<u8>,
+    sums: &mut Sums,
     steps: &mut Steps<L>,
 ) -> Result<(), NoMemory>
     requires ready { (g : Roads) × IsReady g (board_of board.old) }
     requires moment { now ≤ latest_moment }
+    requires few { AreFew (board_of board.old).fleet.version sums.old }
     requires empty { text.old.items ≡ [] }
     ensures { (g : Roads) → OnOk result (AreAnswered g (board_of board.old) (Move now ∷ [])
-        (board_of board.new) text.new.items) }
+        (board_of board.new) text.new.items sums.old sums.new) }
 {
     let advanced = board.advance(alloc, now, steps)?;
-    render(alloc, &Entry::Advance(now, advanced), text)
+    tell(alloc, &Entry::Advance(now, advanced), text, sums)
 }
 
 /// Takes riders who cancel off the board. The lines of that entry are added to an empty text. After an error the board is of no use.
@@ -148,15 +171,17 @@ pub(crate) fn answer_cancel<L>(
     board: &mut Board<NoIndex>,
     no: RequestNo,
     text: &mut Vec<u8>,
+    sums: &mut Sums,
     steps: &mut Steps<L>,
 ) -> Result<(), NoMemory>
     requires ready { IsReady graph.now (board_of board.old) }
+    requires few { AreFew (board_of board.old).fleet.version sums.old }
     requires empty { text.old.items ≡ [] }
     ensures { OnOk result (AreAnswered graph.now (board_of board.old) (Withdraw no ∷ [])
-        (board_of board.new) text.new.items) }
+        (board_of board.new) text.new.items sums.old sums.new) }
 {
     graph.nodes();
     let walker = GraphWalker::new(graph);
     let cancelled = board.cancel(alloc, no, &walker, steps)?;
-    render(alloc, &Entry::Cancel(no, cancelled), text)
+    tell(alloc, &Entry::Cancel(no, cancelled), text, sums)
 }

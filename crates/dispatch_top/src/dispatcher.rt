@@ -4,10 +4,12 @@ ghost use Rattle.board_core.specs.BoardViews.{board_of};
 ghost use Rattle.dispatch_top.specs.Answering.{AreAnswered, IsReady};
 ghost use Rattle.dispatch_top.specs.Dispatching.{HistoriesAreGood};
 ghost use Rattle.dispatch_top.specs.Streams.{events_said};
+ghost use Rattle.dispatch_top.specs.Sums.{AreFew};
 
 use crate::answer::{answer_cancel, answer_move, answer_ride};
 use crate::answerer::Answerer;
 use crate::reading::Texts;
+use crate::sums::Sums;
 use board_core::{Board, fleets_stay_good, promises_are_kept};
 use input_tables::StreamLine;
 use insertion_cost::PlainAnswers;
@@ -16,12 +18,13 @@ use road_graph::{Graph, Steps};
 use std::alloc::Global;
 use stop_schedule::{NoIndex, Params};
 
-/// Answers each event at once: its graph, what prices over it, and the board.
+/// Answers each event at once: its graph, what prices over it, the board, and what is counted of the answers.
 #[derive(Drop)]
 pub(crate) struct Dispatcher<'g> {
     graph: &'g Graph,
     answers: PlainAnswers<'g>,
     board: Board<NoIndex>,
+    pub(crate) sums: Sums,
 }
 
 impl<'g> Dispatcher<'g> {
@@ -46,6 +49,7 @@ impl<'g> Dispatcher<'g> {
             graph,
             answers: PlainAnswers::new(alloc, graph),
             board,
+            sums: Sums::new(),
         })
     }
 }
@@ -59,7 +63,8 @@ fn histories_are_good(graph: &Graph)
     fleets_stay_good();
 }
 
-/// Answers what a line says. The lines of its entries are added to an empty text. After an error the board is of no use.
+/// Answers what a line says. The lines of its entries are added to an empty text, and they are counted. After an error the board is of
+/// no use.
 fn answer_said<L>(
     alloc: Global,
     graph: &Graph,
@@ -67,20 +72,24 @@ fn answer_said<L>(
     board: &mut Board<NoIndex>,
     said: &StreamLine,
     text: &mut Vec<u8>,
+    sums: &mut Sums,
     steps: &mut Steps<L>,
 ) -> Result<(), NoMemory>
     requires prices { answers.old.graph.now ≡ graph.now }
     requires ready { IsReady graph.now (board_of board.old) }
     requires said { IsInRange said.now }
+    requires few { AreFew (board_of board.old).fleet.version sums.old }
     requires empty { text.old.items ≡ [] }
     ensures same { answers.new.graph.now ≡ answers.old.graph.now }
     ensures answered { OnOk result (AreAnswered graph.now (board_of board.old)
-        (events_said said.now) (board_of board.new) text.new.items) }
+        (events_said said.now) (board_of board.new) text.new.items sums.old sums.new) }
 {
     match said {
-        StreamLine::Ride(ride) => answer_ride(alloc, graph, answers, board, ride, text, steps),
-        StreamLine::Move(now) => answer_move(alloc, board, *now, text, steps),
-        StreamLine::Cancel(no) => answer_cancel(alloc, graph, board, *no, text, steps),
+        StreamLine::Ride(ride) => {
+            answer_ride(alloc, graph, answers, board, ride, text, sums, steps)
+        },
+        StreamLine::Move(now) => answer_move(alloc, board, *now, text, sums, steps),
+        StreamLine::Cancel(no) => { answer_cancel(alloc, graph, board, *no, text, sums, steps) },
         StreamLine::Nothing => Ok(()),
     }
 }
@@ -102,7 +111,8 @@ impl<'g> Answerer for Dispatcher<'g> {
     ) -> Result<(), NoMemory> {
         histories_are_good(self.graph);
         let (answers, board) = (&mut self.answers, &mut self.board);
-        answer_said(alloc, self.graph, answers, board, said, text, steps)
+        let sums = &mut self.sums;
+        answer_said(alloc, self.graph, answers, board, said, text, sums, steps)
     }
 
     fn finish<L>(

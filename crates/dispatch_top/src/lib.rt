@@ -5,12 +5,14 @@
 mod answer;
 mod answerer;
 mod dispatcher;
+mod gen_mode;
 mod reading;
 mod run_mode;
 mod runs;
 mod status;
 mod stops;
 mod stream;
+mod sums;
 mod walk_mode;
 mod walker;
 mod words;

@@ -6,6 +6,7 @@ ghost use Rattle.dispatch_top.specs.Behaving.{Behaves, IsComplete};
 ghost use Rattle.dispatch_top.specs.Ends.{Ends, IsUnanswered};
 ghost use Rattle.dispatch_top.specs.Forms.{run_asks};
 
+use crate::gen_mode::print_summary;
 use crate::run_mode::answer_run;
 use crate::status::Status;
 use crate::walk_mode::print_walk;
@@ -17,7 +18,7 @@ use std::thread::Threads;
 
 /// Does what the words of a command line ask, without the program's own name. By `run GRAPH FLEET STREAM` it reads the three texts from
 /// the shelf in this order, and writes what became of each line to the sink before it reads the next one; by `walk GRAPH FROM TO` it
-/// writes a least walk. At every status what the names hold is as before, and no line that was answered is lost.
+/// writes a least walk; by `gen NUMBER` it writes the sums over the rides of a made city. At every status what the names hold is as before, and no line that was answered is lost.
 pub fn run<R: Threads + Sync, S: Shelf, K: Sink, L>(
     _rt: &R,
     alloc: Global,
@@ -45,6 +46,7 @@ pub fn run<R: Threads + Sync, S: Shelf, K: Sink, L>(
         Ok(Task::Walk { graph, from, to }) => {
             print_walk(alloc, graph, from, to, shelf, sink, steps)
         }
+        Ok(Task::Gen { number }) => print_summary(alloc, number, sink, steps),
         Ok(Task::Later) => Status::NotYet,
         Ok(Task::Unknown) => Status::Usage,
         Err(_) => Status::NoMemory,

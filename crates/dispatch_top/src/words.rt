@@ -25,6 +25,8 @@ pub(crate) enum Task<'a> {
     Run(RunNames<'a>),
     /// The least walk between two nodes of a graph is asked for.
     Walk { graph: &'a str, from: u32, to: u32 },
+    /// The sums over the rides of a made city are asked for.
+    Gen { number: u64 },
     /// A form that isn't answered yet.
     Later,
     /// The words are none of the forms that `run` takes.
@@ -76,7 +78,8 @@ fn task_of_form<'a>(form: &Form<'a>) -> Task<'a>
             from: *from,
             to: *to,
         },
+        Form::Gen { number } => Task::Gen { number: *number },
         Form::Live { .. } => Task::Unknown,
-        Form::Run { .. } | Form::Audit { .. } | Form::Gen { .. } => Task::Later,
+        Form::Run { .. } | Form::Audit { .. } => Task::Later,
     }
 }

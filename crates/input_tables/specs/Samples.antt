@@ -1,15 +1,12 @@
 use Rattle.std.specs.Prelude.{◌≡◌, ℕ, List, [], ◌∷◌, ◌++◌, Ok, Err, codes, refl}
 use Rattle.csv.specs.Machine.{next_record}
 use Rattle.csv.specs.Reading.{records_from, strip_bom}
+use Rattle.ride_base.specs.Pieces.{with_line_end as line}
 use Rattle.input_tables.specs.declared.faults.StreamFault.TheVariants.{Form as LineForm, Range as LineRange}
 use Rattle.input_tables.specs.declared.faults.FleetFault.TheVariants.{Header, Form, Range, Double}
 use Rattle.input_tables.specs.declared.lines.StreamLine.TheVariants.{Ride, Move, Cancel, Nothing}
 use Rattle.input_tables.specs.Fleets.{fleet_of, vehicle_of}
 use Rattle.input_tables.specs.Streams.{stream_line_of, request_of}
-
--- a line with its end
-abbrev line : List ℕ → List ℕ
-line text = text ++ 10 ∷ []
 
 ride : stream_line_of (codes " r  007 2 4 0" ++ 9 ∷ codes "1 ") ≡ Ok (Ride (request_of 7 2 4 0 1 0))
 ride = refl

@@ -10,7 +10,7 @@ use Rattle.stop_schedule.specs.declared.stop.Stop.{Stop}
 use Rattle.stop_schedule.specs.declared.stop.StopKind.TheVariants.{Dropoff}
 use Rattle.stop_schedule.specs.Bounds.{IsBounded}
 use Rattle.stop_schedule.specs.Keeping.{is_feasible, is_seated, are_in_time, is_over_by, keeps, keeps_along, most_stops}
-use Rattle.stop_schedule.specs.Lists.{new_course, old_course, pickup_of, dropoff_of, unpromised, with_legs}
+use Rattle.stop_schedule.specs.Lists.{new_course, old_course, pickup_of, dropoff_of, unpromised, with_legs, pair}
 use Rattle.stop_schedule.specs.Plans.{Plan, Course, course_of, halt_at}
 use Rattle.stop_schedule.specs.Rates.{Rates}
 use Rattle.stop_schedule.specs.Times.{departs, arrives, kept_time}
@@ -18,7 +18,7 @@ use Rattle.stop_schedule.proofs.ListLaws.{length-with_both, drop_from}
 use Rattle.stop_schedule.proofs.TimeLaws.{Holds, course, kept_of_keeps, is_kept-holds, holds_behind, promised_shift}
 use Rattle.insertion_cost.specs.declared.on_the_way.OnTheWay.{OnTheWay}
 use Rattle.insertion_cost.specs.Behind.{busy_along, busy_behind}
-use Rattle.insertion_cost.specs.OnWays.{past_stop, out_of, by_way, changed, HasRoom, HasRoomTo, onward, Leads, pair, starting}
+use Rattle.insertion_cost.specs.OnWays.{past_stop, out_of, by_way, changed, HasRoom, HasRoomTo, onward, Leads, starting}
 use Rattle.insertion_cost.specs.Prices.{busy_time, detour}
 use Rattle.insertion_cost.proofs.DriveAlong.{places}
 use Rattle.insertion_cost.proofs.NewCourse.{stops_are, lengths_are, holds_past, busy_past, departs_past, arrives_past, busy_is, holds_left}

@@ -15,7 +15,7 @@ use Rattle.stop_schedule.specs.declared.stop.Insertion.{Insertion}
 use Rattle.stop_schedule.specs.declared.stop.Start.{Start}
 use Rattle.stop_schedule.specs.declared.stop.Stop.{Stop}
 use Rattle.stop_schedule.specs.Keeping.{is_feasible, keeps}
-use Rattle.stop_schedule.specs.Lists.{new_course, node_at, changed_ends}
+use Rattle.stop_schedule.specs.Lists.{new_course, node_at, changed_ends, pair}
 use Rattle.stop_schedule.specs.Plans.{Plan, course_of, halt_at}
 use Rattle.stop_schedule.specs.Rates.{Rates, trip_limit}
 use Rattle.stop_schedule.specs.Times.{departs, kept_time}
@@ -29,7 +29,7 @@ use Rattle.insertion_cost.specs.Behind.{busy_along, IsBehind}
 use Rattle.insertion_cost.specs.Changes.{course_from}
 use Rattle.insertion_cost.specs.NodeWays.{AreWaysAlong, HaveShape}
 use Rattle.insertion_cost.specs.Offers.{HasPrice}
-use Rattle.insertion_cost.specs.OnWays.{past_stop, out_of, changed, HasRoom, Leads, pair, EndsSo, HasNoneFrom, AreReadOff, IsLengthOn, into_of, onto_of, no_ways}
+use Rattle.insertion_cost.specs.OnWays.{past_stop, out_of, changed, HasRoom, Leads, EndsSo, HasNoneFrom, AreReadOff, IsLengthOn, into_of, onto_of, no_ways}
 use Rattle.insertion_cost.specs.Prices.{Price, priced, price_of}
 use Rattle.insertion_cost.specs.Spans.{lengths_of}
 use Rattle.insertion_cost.proofs.ChangedEnds.{ends_behind, ends_together, ends_apart, one_behind, none_behind}

@@ -13,7 +13,7 @@ use Rattle.stop_schedule.specs.declared.stop.Start.{Start}
 use Rattle.stop_schedule.specs.Fleets.{Car}
 use Rattle.stop_schedule.specs.Limits.{most_stops}
 use Rattle.stop_schedule.specs.Keeping.{keeps, is_feasible}
-use Rattle.stop_schedule.specs.Lists.{changed_ends, old_course, node_at, started}
+use Rattle.stop_schedule.specs.Lists.{changed_ends, old_course, node_at, started, pair}
 use Rattle.stop_schedule.specs.Plans.{Plan, Course, course_of, halt_at}
 use Rattle.stop_schedule.specs.Rates.{Rates, trip_limit}
 use Rattle.stop_schedule.specs.Times.{departs}
@@ -26,7 +26,7 @@ use Rattle.insertion_cost.specs.declared.spans.Spans.{Spans}
 use Rattle.insertion_cost.specs.Behind.{busy_behind, IsBehind, AreBehind}
 use Rattle.insertion_cost.specs.Changes.{course_from}
 use Rattle.insertion_cost.specs.NodeWays.{AreWaysAlong, AreSpansOf, HaveShape, IsDistOrNone, IsOnlyPrice}
-use Rattle.insertion_cost.specs.OnWays.{past_stop, changed, HasRoom, HasRoomBy, IsLed, IsPricedBy, pair, EndsSo, AreReadOff, into_of, onto_of, starting, no_ways, AreShortWays, AreSomeBehind}
+use Rattle.insertion_cost.specs.OnWays.{past_stop, changed, HasRoom, HasRoomBy, IsLed, IsPricedBy, EndsSo, AreReadOff, into_of, onto_of, starting, no_ways, AreShortWays, AreSomeBehind}
 use Rattle.insertion_cost.specs.Prices.{Price, priced}
 use Rattle.insertion_cost.specs.Spans.{lengths_of}
 use Rattle.insertion_cost.specs.Pairs.{IsCarOf, IsBestOfTried}

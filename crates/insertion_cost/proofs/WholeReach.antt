@@ -2,11 +2,11 @@ use Rattle.std.proofs.Common.{◌≡◌, ℕ, sym, Option, Some, None, Result, O
 use Rattle.road_graph.specs.declared.road.NodeNo.{NodeNo}
 use Rattle.road_graph.specs.Roads.{Roads}
 use Rattle.road_graph.specs.Paths.{Path}
-use Rattle.road_graph.specs.Walks.{IsLeastWalk, NoWalk}
+use Rattle.road_graph.specs.Walks.{IsLeastWalk, IsLeastWalkOrNone, NoWalk}
 use Rattle.plain_search.specs.declared.reached.Way.{Way}
 use Rattle.plain_search.specs.declared.reached.Way.TheVariants.{From, To}
 use Rattle.plain_search.specs.Reaching.{Listing, IsBeyond, IsLeastWalkBy}
-use Rattle.insertion_cost.specs.Searches.{IsWholeReach, IsLeastWalkOrNone}
+use Rattle.insertion_cost.specs.Searches.{IsWholeReach}
 
 -- the least walk that a whole reach gives
 given : (g : Roads) (way : Way) (start node : NodeNo) (s : Listing) (o : Option Path) → IsWholeReach g way start s → MatchOption o (IsBeyond s.way g s.start s.radius node) (IsLeastWalkBy s.way g s.start node)

@@ -114,7 +114,7 @@ is_decided (Above x) (Some o) = nat_le o.cost x
 is_decided All best = true
 
 -- Three vehicles that were priced at version 4: the first from its front at 0, the second without an offer, the third not at all.
-abbrev standing : ℕ → Front
+abbrev pub standing : ℕ → Front
 standing time = record { node = node 1; time = time; offset = 0 }
 
 abbrev offered : ℕ → ℕ → Offer
@@ -127,7 +127,7 @@ listed floor = record {
   floor = floor;
 }
 
-abbrev standing_car : ℕ → Car
+abbrev pub standing_car : ℕ → Car
 standing_car stamp = record { no = record { 0 = 1 }; plan = opened; stamp = stamp }
 
 abbrev at_clock : ℕ → ℕ → ℕ → ℕ → Cars

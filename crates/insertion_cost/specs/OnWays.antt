@@ -10,7 +10,7 @@ use Rattle.stop_schedule.specs.declared.stop.SeatKind.TheVariants.{Seat, Space}
 use Rattle.stop_schedule.specs.declared.stop.Stop.{Stop}
 use Rattle.stop_schedule.specs.Keeping.{is_feasible}
 use Rattle.stop_schedule.specs.declared.stop.Start.{Start}
-use Rattle.stop_schedule.specs.Lists.{new_course, old_course, start_of, dropoff_of, unpromised}
+use Rattle.stop_schedule.specs.Lists.{new_course, old_course, start_of, dropoff_of, unpromised, pair}
 use Rattle.stop_schedule.specs.Plans.{Plan, Course, halt_at}
 use Rattle.stop_schedule.specs.Rates.{Rates}
 use Rattle.stop_schedule.specs.Times.{halt_time, departs, arrives}
@@ -91,10 +91,6 @@ into_of ways i = unwrap_or (get_or ways i no_ways).to_pickup 0
 
 abbrev pub onto_of : List NodeWays → ℕ → ℕ
 onto_of ways i = unwrap_or (get_or ways (i + 1) no_ways).from_pickup 0
-
--- the pair of places after stop i
-abbrev pub pair : ℕ → ℕ → Insertion
-pair i j = record { i = i; j = j }
 
 -- where a vehicle that takes the riders up behind stop i turns to them
 abbrev pub starting : Rates → Plan → Front → ℕ → OnTheWay

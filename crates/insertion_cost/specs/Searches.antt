@@ -1,8 +1,6 @@
-use Rattle.std.specs.Prelude.{◌≡◌, List, ◌∷◌, map, Option, None, MatchOption}
+use Rattle.std.specs.Prelude.{◌≡◌, List, ◌∷◌, map, None}
 use Rattle.road_graph.specs.declared.road.NodeNo.{NodeNo}
-use Rattle.road_graph.specs.Paths.{Path}
 use Rattle.road_graph.specs.Roads.{Roads}
-use Rattle.road_graph.specs.Walks.{IsLeastWalk, NoWalk}
 use Rattle.plain_search.specs.declared.reached.Way.{Way}
 use Rattle.plain_search.specs.declared.reached.Way.TheVariants.{From, To}
 use Rattle.plain_search.specs.Reaching.{Listing, IsReach, distance_of}
@@ -25,10 +23,6 @@ pub record AreSearchesOf (g : Roads) (r : Request) (s : Searches) : Type 0 where
   pub from_pickup : IsWholeReach g From r.pickup s.from_pickup
   pub to_dropoff : IsWholeReach g To r.dropoff s.to_dropoff
   pub from_dropoff : IsWholeReach g From r.dropoff s.from_dropoff
-
--- a least walk from one node to another, or none where there is no walk
-abbrev pub IsLeastWalkOrNone : Roads → NodeNo → NodeNo → Option Path → Type 0
-IsLeastWalkOrNone g u v found = MatchOption found (NoWalk g u v) (IsLeastWalk g u v)
 
 -- the distances that they list between a node and the two nodes of the request
 abbrev pub ways_at : Searches → NodeNo → NodeWays

@@ -1,4 +1,5 @@
-ghost use Rattle.std.specs.Prelude.{◌≡◌, ℕ, ◌+◌, ◌<◌, ◌≤◌, ◌^◌, length, Some, slice_get, slice_index};
+ghost use Rattle.std.specs.Prelude.{◌≡◌, ℕ, ◌+◌, ◌<◌, ◌≤◌, length, Some, slice_get, slice_index};
+ghost use Rattle.road_graph.specs.Limits.{far};
 ghost use Rattle.stop_schedule.specs.Bounds.{IsBounded};
 ghost use Rattle.stop_schedule.specs.Lists.{IsInsertionInto, unpromised};
 ghost use Rattle.insertion_cost.specs.Changes.{new_stops, new_lengths};
@@ -46,7 +47,7 @@ pub fn new_length(schedule: &Schedule, spans: &Spans, at: Insertion, k: usize) -
     requires stop { k < length schedule.now.stops + 2 }
     ensures value { result
         ≡ slice_index (new_lengths schedule.now.legs at (lengths_of spans.now)) k }
-    ensures bound { result < 2 ^ 53 }
+    ensures bound { result < far }
 {
     if k < at.i {
         schedule.leg(k).length()

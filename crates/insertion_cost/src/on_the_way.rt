@@ -1,4 +1,5 @@
 ghost use Rattle.std.specs.Prelude.{◌≡◌, ◌+◌, ◌<◌, ◌≤◌, ◌^◌, max};
+ghost use Rattle.road_graph.specs.Limits.{far};
 ghost use Rattle.insertion_cost.specs.OnWays.{past_stop};
 
 use road_graph::NodeNo;
@@ -20,7 +21,7 @@ impl OnTheWay {
     pub fn past(&self, params: &Params, length: u64, node: NodeNo, ready: u64) -> OnTheWay
         requires departure { self.now.departure ≤ 2 ^ 57 }
         requires busy_time { self.now.busy_time ≤ 2 ^ 57 }
-        requires length { length < 2 ^ 53 }
+        requires length { length < far }
         ensures value { result ≡ past_stop params.now.stop self.now length node ready }
         ensures departure { result.departure
             ≤ max (self.now.departure + length + 65536) ready }

@@ -1,4 +1,5 @@
 ghost use Rattle.std.specs.Prelude.{◌≡◌, ℕ, ◌+◌, ◌-◌, ◌<◌, ◌≤◌, ◌^◌, ◌↔◌, length, drop, option_map, IsTrue, IsSome, IfSome, IfOk, Some, true, unwrap_or, slice_get};
+ghost use Rattle.road_graph.specs.Limits.{far};
 ghost use Rattle.road_graph.specs.Roads.{Roads};
 ghost use Rattle.stop_schedule.specs.Bounds.{IsBounded};
 ghost use Rattle.stop_schedule.specs.Limits.{latest_moment, latest_front, most_stops};
@@ -47,12 +48,12 @@ fn behind_stop(schedule: &Schedule, rows: &[Behind], i: usize) -> Behind
 fn turning_at(schedule: &Schedule, front: &Front, i: usize, left: u64) -> OnTheWay
     requires within { i ≤ length schedule.now.stops }
     requires front { front.now.time ≤ latest_front }
-    requires offset { front.now.offset < 2 ^ 53 }
-    requires soon { left ≤ 2 ^ 41 }
+    requires offset { front.now.offset < far }
+    requires soon { left ≤ latest_front }
     ensures value { (rates : Rates) → left ≡ departs rates.stop (course_of schedule.now) i
         → result ≡ starting rates schedule.now front.now i }
-    ensures soon { result.departure ≤ 2 ^ 41 }
-    ensures offset { result.busy_time < 2 ^ 53 }
+    ensures soon { result.departure ≤ latest_front }
+    ensures offset { result.busy_time < far }
 {
     if i == 0 {
         let start = schedule.start(front, Insertion { i, j: i });
@@ -73,7 +74,7 @@ fn turning_at(schedule: &Schedule, front: &Front, i: usize, left: u64) -> OnTheW
 /// When the list leaves stop i + 1, where there is one and it leaves stop i, from 0, then.
 fn next_left(schedule: &Schedule, params: &Params, i: usize, left: u64) -> u64
     requires within { i ≤ length schedule.now.stops }
-    requires soon { left ≤ 2 ^ 41 }
+    requires soon { left ≤ latest_front }
     ensures { i < length schedule.now.stops
         → left ≡ departs params.now.stop (course_of schedule.now) i
         → result ≡ departs params.now.stop (course_of schedule.now) (i + 1) }
@@ -114,7 +115,7 @@ fn ends_at(
     requires kept { keeps params.now schedule.now ≡ true }
     requires rows { AreSomeBehind params.now schedule.now rows.now }
     requires way_on { IsSome way_on ↔ (j < length schedule.now.stops) }
-    requires short { IfSome way_on (λ x. x < 2 ^ 53) }
+    requires short { IfSome way_on (λ x. x < far) }
     requires departure { dropped.now.departure ≤ 2 ^ 55 }
     requires busy_time { dropped.now.busy_time ≤ 2 ^ 55 }
     ensures ends { EndsSo params.now schedule.now j (unwrap_or way_on 0) dropped.now result }
@@ -169,7 +170,7 @@ fn priced_at(
     requires bounded { IsBounded schedule.now }
     requires kept { keeps params.now schedule.now ≡ true }
     requires moment { request.now.moment ≤ latest_moment }
-    requires direct { direct < 2 ^ 53 }
+    requires direct { direct < far }
     requires ways { AreShortWays schedule.now ways.now }
     requires rows { AreSomeBehind params.now schedule.now rows.now }
     requires leave { leave ≤ latest_moment }
@@ -207,7 +208,7 @@ fn length_on(schedule: &Schedule, ways: &[NodeWays], i: usize, j: usize) -> Opti
     requires order { i ≤ j }
     requires ways { AreShortWays schedule.now ways.now }
     ensures value { IsLengthOn schedule.now ways.now i j result }
-    ensures short { IfSome result (λ x. x < 2 ^ 53) }
+    ensures short { IfSome result (λ x. x < far) }
 {
     if i == j {
         ways[j + 1].from_pickup
@@ -285,7 +286,7 @@ fn best_on_the_way(
     requires bounded { IsBounded schedule.now }
     requires kept { keeps params.now schedule.now ≡ true }
     requires moment { request.now.moment ≤ latest_moment }
-    requires direct { direct < 2 ^ 53 }
+    requires direct { direct < far }
     requires ways { AreShortWays schedule.now ways.now }
     requires rows { AreSomeBehind params.now schedule.now rows.now }
     requires leave { taken.now.departure ≤ latest_moment }
@@ -345,8 +346,8 @@ fn best_after_stop(
     requires kept { keeps params.now schedule.now ≡ true }
     requires moment { request.now.moment ≤ latest_moment }
     requires front { front.now.time ≤ latest_front }
-    requires offset { front.now.offset < 2 ^ 53 }
-    requires direct { direct < 2 ^ 53 }
+    requires offset { front.now.offset < far }
+    requires direct { direct < far }
     requires ways { AreShortWays schedule.now ways.now }
     requires rows { AreSomeBehind params.now schedule.now rows.now }
     ensures { (g : Roads) (car : CarOf)
@@ -385,7 +386,7 @@ pub fn best_from(
     requires kept { keeps params.now schedule.now ≡ true }
     requires moment { request.now.moment ≤ latest_moment }
     requires front { front.now.time ≤ latest_front }
-    requires offset { front.now.offset < 2 ^ 53 }
+    requires offset { front.now.offset < far }
     ensures { IfOk result (λ best. (g : Roads) (car : CarOf)
         → AreWaysAlong g request.now front.now schedule.now.stops direct ways.now
         → IsCarOf vehicle schedule.now car

@@ -1,16 +1,17 @@
-ghost use Rattle.std.specs.Prelude.{IsOk, IfSome, ◌≡◌, true, ◌+◌, ◌<◌, ◌≤◌, ◌^◌, ◌∷◌, ◌++◌, length, option_to_list, IfOk};
+ghost use Rattle.std.specs.Prelude.{IsOk, IfSome, ◌≡◌, true, ◌+◌, ◌<◌, ◌≤◌, ◌∷◌, ◌++◌, length, option_to_list, IfOk};
 ghost use Rattle.road_graph.specs.Graphs.{IsGraph};
+ghost use Rattle.road_graph.specs.Limits.{far};
 ghost use Rattle.road_graph.specs.Roads.{Roads, IsNode};
-ghost use Rattle.road_graph.specs.Walks.{IsLeastWalk};
+ghost use Rattle.road_graph.specs.Walks.{IsLeastWalk, IsLeastWalkOrNone};
 ghost use Rattle.stop_schedule.specs.Distances.{AreLeastWalks};
 ghost use Rattle.stop_schedule.specs.Fleets.{Car as CarOf, IsGoodView};
 ghost use Rattle.stop_schedule.specs.Keeping.{keeps};
 ghost use Rattle.stop_schedule.specs.Limits.{latest_moment, latest_front};
-ghost use Rattle.stop_schedule.specs.Lists.{IsInsertionInto, changed_ends, node_at as node_of_stop};
+ghost use Rattle.stop_schedule.specs.Lists.{IsInsertionInto, changed_ends};
 ghost use Rattle.insertion_cost.specs.Pairs.{IsCarOf, IsBestFrom};
 ghost use Rattle.insertion_cost.specs.Pricers.{IsAnswerOf, IsRequestIn, IsSearchedFor};
 ghost use Rattle.insertion_cost.specs.Pricers.{IsEntryBySearches, IsBestBySearches, HasDistance, HaveDistances};
-ghost use Rattle.insertion_cost.specs.Searches.{AreSearchesOf, IsLeastWalkOrNone};
+ghost use Rattle.insertion_cost.specs.Searches.{AreSearchesOf};
 
 use crate::behind::Behind;
 use crate::candidates::{Candidate, Candidates, Floor};
@@ -24,7 +25,9 @@ use plain_search::least_walk;
 use ride_base::{Items, NoMemory};
 use road_graph::{Graph, NodeNo, Steps, Walk};
 use std::alloc::Global;
-use stop_schedule::{FleetView, Front, Insertion, NewWalks, Params, Request, Schedule, Stop};
+use stop_schedule::{
+    FleetView, Front, Insertion, NewWalks, Params, Request, Schedule, Stop, node_at,
+};
 
 /// The best offer of a vehicle from a front, by whole searches. None where no pair is feasible.
 fn best_by_searches(
@@ -40,7 +43,7 @@ fn best_by_searches(
     requires graph { (g : Roads) × IsGraph g × AreSearchesOf g request.now searches.now }
     requires moment { request.now.moment ≤ latest_moment }
     requires front { front.now.time ≤ latest_front }
-    requires offset { front.now.offset < 2 ^ 53 }
+    requires offset { front.now.offset < far }
     requires kept { keeps params.now schedule.now ≡ true }
     ensures { IfOk result (λ best. (g : Roads) (car : CarOf) → IsGraph g
         → AreSearchesOf g request.now searches.now → IsCarOf vehicle schedule.now car
@@ -100,18 +103,6 @@ fn best_offer<F: FleetView>(
         best = first_of_two(best, entry.best);
     }
     Ok(best)
-}
-
-/// The node of stop k, and of the front for 0.
-fn node_at(stops: &[Stop], front: &Front, k: usize) -> NodeNo
-    requires { k ≤ length stops.now }
-    ensures { result ≡ node_of_stop front.now stops.now k }
-{
-    if k == 0 {
-        front.node
-    } else {
-        stops[k - 1].node
-    }
 }
 
 /// The walks side by side, as many as there are.
@@ -205,7 +196,7 @@ fn changed_walks<L>(
     ensures steps { steps.old.0 ≤ steps.new.0 }
     ensures asks { steps.new.1 ≡ steps.old.1 }
 {
-    let before = node_at(stops, front, at.i);
+    let before = node_at(front, stops, at.i);
     let before_pickup = walk_between(
         alloc,
         graph,
@@ -216,7 +207,7 @@ fn changed_walks<L>(
         steps,
     )?;
     let after_dropoff = if at.j < stops.len() {
-        let behind = node_at(stops, front, at.j + 1);
+        let behind = node_at(front, stops, at.j + 1);
         Some(walk_between(
             alloc,
             graph,
@@ -241,9 +232,9 @@ fn changed_walks<L>(
         )?;
         return Ok(in_order(alloc, before_pickup, between, None, after_dropoff));
     }
-    let next = node_at(stops, front, at.i + 1);
+    let next = node_at(front, stops, at.i + 1);
     let after_pickup = walk_between(alloc, graph, searches, request, request.pickup, next, steps)?;
-    let last = node_at(stops, front, at.j);
+    let last = node_at(front, stops, at.j);
     let before_dropoff = walk_between(
         alloc,
         graph,

@@ -1,4 +1,5 @@
 ghost use Rattle.std.specs.Prelude.{◌≡◌, ℕ, ◌+◌, ◌-◌, ◌*◌, ◌<◌, ◌≤◌, ◌^◌, length, option_map, IfSome, ◌==◌, if◌then◌else◌};
+ghost use Rattle.road_graph.specs.Limits.{far};
 ghost use Rattle.stop_schedule.specs.Limits.{latest_moment, latest_front, end_of_time};
 ghost use Rattle.stop_schedule.specs.Lists.{old_course};
 ghost use Rattle.insertion_cost.specs.Changes.{course_from};
@@ -32,10 +33,10 @@ pub fn price(
     at: Insertion,
 ) -> Option<Priced>
     requires spans { AreSpans (length schedule.now.stops) at spans.now }
-    requires direct { direct < 2 ^ 53 }
+    requires direct { direct < far }
     requires moment { request.now.moment ≤ latest_moment }
     requires front { front.now.time ≤ latest_front }
-    requires offset { front.now.offset < 2 ^ 53 }
+    requires offset { front.now.offset < far }
     ensures value { option_map price_from result
         ≡ priced params.now schedule.now front.now request.now at direct (lengths_of spans.now) }
     ensures cost { IfSome result (λ p. p.cost < 2 ^ 58) }
@@ -62,7 +63,7 @@ pub fn price(
 /// reached at these times.
 pub fn promise(params: &Params, request: &Request, direct: u64, leave: u64, arrive: u64) -> Promise
     requires moment { request.now.moment ≤ latest_moment }
-    requires direct { direct < 2 ^ 53 }
+    requires direct { direct < far }
     requires leave { leave < end_of_time }
     requires arrive { arrive < end_of_time }
     ensures value { result ≡ promise_of params.now request.now direct (planned leave arrive) }
@@ -78,7 +79,7 @@ pub fn promise(params: &Params, request: &Request, direct: u64, leave: u64, arri
 /// What the new list takes more than the old one, both from where the new one starts.
 fn detour(schedule: &Schedule, front: &Front, params: &Params, new: u64, at: Insertion) -> u64
     requires time { front.now.time ≤ latest_front }
-    requires offset { front.now.offset < 2 ^ 53 }
+    requires offset { front.now.offset < far }
     requires new { new ≤ 2 ^ 41 }
     ensures value { result ≡ (if at.i == 0 then front.now.offset else 0) + new
         - busy_time params.now.stop (old_course schedule.now front.now at) }

@@ -1,7 +1,8 @@
 ghost use Rattle.std.specs.Prelude.{◌≡◌, ◌≤◌, ◌∷◌, map, OnOk, IfOk};
 ghost use Rattle.road_graph.specs.Roads.{IsNode};
+ghost use Rattle.road_graph.specs.Walks.{IsLeastWalkOrNone};
 ghost use Rattle.plain_search.specs.Reaching.{distance_of};
-ghost use Rattle.insertion_cost.specs.Searches.{AreSearchesOf, IsLeastWalkOrNone};
+ghost use Rattle.insertion_cost.specs.Searches.{AreSearchesOf};
 ghost use Rattle.insertion_cost.specs.Searches.{ways_at, ways_along};
 
 use crate::node_ways::NodeWays;

@@ -17,7 +17,7 @@ use Rattle.board_core.specs.declared.entry.Submitted.TheVariants.{Accepted, Refu
 use Rattle.board_core.specs.declared.fleet.Fleet.{Fleet}
 use Rattle.board_core.specs.Boards.{Board, with_next_version}
 use Rattle.board_core.specs.FleetViews.{cars_of}
-use Rattle.board_core.specs.Samples.{at_first, with_one}
+use Rattle.board_core.specs.Samples.{at_first, numbered, with_one}
 use Rattle.board_core.specs.Steps.{Step}
 use Rattle.interleave_core.specs.declared.event.Event.TheVariants as event
 use Rattle.interleave_core.specs.declared.holding.Holding.TheVariants.{Nothing, Claimed, Priced}
@@ -26,9 +26,6 @@ use Rattle.interleave_core.specs.States.{Holding, State}
 
 -- Two actors before the board of the line of four nodes, on which the request 1 waits that no desk holds. The index of its fleet is a
 -- number here.
-
-abbrev number : ℕ → RequestNo
-number n = record { 0 = n }
 
 abbrev one : Request
 one = ride 1 2 4 0 1
@@ -56,7 +53,7 @@ priced c = with_actors (held_by_desk (Some 1) with_one) Nothing (Priced one c)
 -- ---- claims
 
 -- the second actor claims the request as the desk 1, and keeps the fleet as it is behind the claim
-second_claims : (g : Roads) → Act g idle (event.Claim 1) (entry.Claim (number 1) 1 ∷ []) claimed
+second_claims : (g : Roads) → Act g idle (event.Claim 1) (entry.Claim (numbered 1) 1 ∷ []) claimed
 second_claims g = (kept, refl, (refl, (record { request = one; holder = None }, refl, refl, refl), refl))
 
 -- it claims no other one while it holds this one, and the first actor finds none
@@ -75,11 +72,12 @@ claim_not_dropped : (g : Roads) (after : State ℕ) → Act g idle (event.Claim 
 claim_not_dropped g after h = (let bad = h.2.0 in cc)
 
 -- nor is one in another desk's name
-own_desk : (g : Roads) (after : State ℕ) → Act g idle (event.Claim 0) (entry.Claim (number 1) 1 ∷ []) after → ⊥
+own_desk : (g : Roads) (after : State ℕ) → Act g idle (event.Claim 0) (entry.Claim (numbered 1) 1 ∷ []) after → ⊥
 own_desk g after h = (let bad = h.2.0 in cc)
 
 -- a closed board takes no request, but those that wait are claimed
-claims_when_closed : (g : Roads) → Act g (with_actors (record with_one { closed = true }) Nothing Nothing) (event.Claim 1) (entry.Claim (number 1) 1 ∷ [])
+claims_when_closed : (g : Roads)
+    → Act g (with_actors (record with_one { closed = true }) Nothing Nothing) (event.Claim 1) (entry.Claim (numbered 1) 1 ∷ [])
     (with_actors (record (held_by_desk (Some 1) with_one) { closed = true }) Nothing (Claimed one kept))
 claims_when_closed g = (kept, refl, (refl, (record { request = one; holder = None }, refl, refl, refl), refl))
 
@@ -110,8 +108,8 @@ nothing_priced g = (refl, refl)
 -- ---- commits
 
 -- a priced claim is committed by an entry that is lawful on the board as it is, and its actor holds nothing then
-is_committed : (g : Roads) (c : Candidates) (d : Decision) (b new : Board) → Step g b (entry.Commit (number 1) d) new
-    → Act g (with_actors b Nothing (Priced one c)) (event.Commit 1) (entry.Commit (number 1) d ∷ []) (with_actors new Nothing Nothing)
+is_committed : (g : Roads) (c : Candidates) (d : Decision) (b new : Board) → Step g b (entry.Commit (numbered 1) d) new
+    → Act g (with_actors b Nothing (Priced one c)) (event.Commit 1) (entry.Commit (numbered 1) d ∷ []) (with_actors new Nothing Nothing)
 is_committed g c d b new step = (d, (refl, step, refl))
 
 -- one that holds nothing, or what isn't priced, adds nothing
@@ -125,20 +123,22 @@ unpriced g = (refl, refl)
 commit_not_dropped : (g : Roads) (c : Candidates) (after : State ℕ) → Act g (priced c) (event.Commit 1) [] after → ⊥
 commit_not_dropped g c after h = (let bad = h.1.0 in cc)
 
-own_number : (g : Roads) (c : Candidates) (d : Decision) (after : State ℕ) → Act g (priced c) (event.Commit 1) (entry.Commit (number 2) d ∷ []) after → ⊥
+own_number : (g : Roads) (c : Candidates) (d : Decision) (after : State ℕ)
+    → Act g (priced c) (event.Commit 1) (entry.Commit (numbered 2) d ∷ []) after → ⊥
 own_number g c d after h =
     let bad = h.1.0 in
-    let same : number 2 ≡ number 1 = cc in
+    let same : numbered 2 ≡ numbered 1 = cc in
     false≢true (ap (λ (n : RequestNo). n.0 == 1) same)
 
 -- ---- what is given back, and what has no actor
 
 -- the request keeps its place, and no desk holds it
-given_back : (g : Roads) → Act g claimed (event.Back 1) (entry.Back (number 1) ∷ []) (with_actors (held_by_desk None claimed.board) Nothing Nothing)
+given_back : (g : Roads)
+    → Act g claimed (event.Back 1) (entry.Back (numbered 1) ∷ []) (with_actors (held_by_desk None claimed.board) Nothing Nothing)
 given_back g = (refl, (record { request = one; holder = Some 1 }, refl, refl, refl), refl)
 
 priced_given_back : (g : Roads) (c : Candidates)
-    → Act g (priced c) (event.Back 1) (entry.Back (number 1) ∷ []) (with_actors (held_by_desk None claimed.board) Nothing Nothing)
+    → Act g (priced c) (event.Back 1) (entry.Back (numbered 1) ∷ []) (with_actors (held_by_desk None claimed.board) Nothing Nothing)
 priced_given_back g c = (refl, (record { request = one; holder = Some 1 }, refl, refl, refl), refl)
 
 abbrev closed : State ℕ
@@ -154,10 +154,14 @@ shut_before g = (refl, refl)
 abbrev at_five : Board
 at_five = record with_one { fleet = record with_one.fleet { clock = 5 } }
 
-moves_back : (g : Roads) → Act g (with_actors at_five Nothing Nothing) (event.Advance 4) (entry.Advance 4 (Behind 5) ∷ []) (with_actors (with_next_version at_five) Nothing Nothing)
+moves_back : (g : Roads)
+    → Act g (with_actors at_five Nothing Nothing) (event.Advance 4) (entry.Advance 4 (Behind 5) ∷ [])
+    (with_actors (with_next_version at_five) Nothing Nothing)
 moves_back g = (Behind 5, (refl, (lit< tt, refl, refl), refl))
 
-tells_refusal : (g : Roads) → Act g idle (event.Submit (ride 2 2 4 0 0)) (entry.Submit (ride 2 2 4 0 0) (Refused Riders) ∷ []) (with_actors (with_next_version with_one) Nothing Nothing)
+tells_refusal : (g : Roads)
+    → Act g idle (event.Submit (ride 2 2 4 0 0)) (entry.Submit (ride 2 2 4 0 0) (Refused Riders) ∷ [])
+    (with_actors (with_next_version with_one) Nothing Nothing)
 tells_refusal g = (Refused Riders, (refl, (refl, refl), refl))
 
 -- ---- a list of events
@@ -172,30 +176,30 @@ kept_then = record kept { version = 2 }
 -- three of five add an entry, in their order
 a_play : (g : Roads) → Play g (with_actors at_first Nothing Nothing)
     (event.Commit 0 ∷ event.Submit one ∷ event.Claim 1 ∷ event.Claim 0 ∷ event.Back 1 ∷ [])
-    (entry.Submit one Accepted ∷ entry.Claim (number 1) 1 ∷ entry.Back (number 1) ∷ [])
+    (entry.Submit one Accepted ∷ entry.Claim (numbered 1) 1 ∷ entry.Back (numbered 1) ∷ [])
     (with_actors (held_by_desk None (held_by_desk (Some 1) submitted)) Nothing Nothing)
 a_play g = (
   [],
-  entry.Submit one Accepted ∷ entry.Claim (number 1) 1 ∷ entry.Back (number 1) ∷ [],
+  entry.Submit one Accepted ∷ entry.Claim (numbered 1) 1 ∷ entry.Back (numbered 1) ∷ [],
   with_actors at_first Nothing Nothing,
   (refl, refl),
   (
     entry.Submit one Accepted ∷ [],
-    entry.Claim (number 1) 1 ∷ entry.Back (number 1) ∷ [],
+    entry.Claim (numbered 1) 1 ∷ entry.Back (numbered 1) ∷ [],
     with_actors submitted Nothing Nothing,
     (Accepted, (refl, (refl, refl), refl)),
     (
-      entry.Claim (number 1) 1 ∷ [],
-      entry.Back (number 1) ∷ [],
+      entry.Claim (numbered 1) 1 ∷ [],
+      entry.Back (numbered 1) ∷ [],
       with_actors (held_by_desk (Some 1) submitted) Nothing (Claimed one kept_then),
       (kept_then, refl, (refl, (record { request = one; holder = None }, refl, refl, refl), refl)),
       (
         [],
-        entry.Back (number 1) ∷ [],
+        entry.Back (numbered 1) ∷ [],
         with_actors (held_by_desk (Some 1) submitted) Nothing (Claimed one kept_then),
         (refl, refl),
         (
-          entry.Back (number 1) ∷ [],
+          entry.Back (numbered 1) ∷ [],
           [],
           with_actors (held_by_desk None (held_by_desk (Some 1) submitted)) Nothing Nothing,
           (refl, (record { request = one; holder = Some 1 }, refl, refl, refl), refl),

@@ -118,7 +118,11 @@ fn is_row(alloc: Global, shelf: &mut MemoryShelf) -> bool
     first && second && third && fourth
 }
 
+/// What is printed of both entries.
+const ROW: &[u8] = b"r 1 2 4 0 1\na 1 1 0 0 34 12 32\ng 0 1 2\ng 1 2 3 4\n";
+
 fn check(rt: &impl Abort, alloc: Global, text: Vec<u8>) -> Result<(), Fail> {
+    assert_eq!(rt; text.as_slice(), ROW);
     let mut shelf = begun(alloc, text.as_slice(), 100)?;
     assert!(rt; is_row(alloc, &mut shelf));
     Ok(())

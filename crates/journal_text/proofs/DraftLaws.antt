@@ -23,7 +23,7 @@ use Rattle.journal_text.specs.Certificates.{numbered_lines}
 use Rattle.journal_text.specs.Forms.{is_32, is_number, largest_number, largest_32, largest_position, latest_clock, is_walk_text, is_potential_text}
 use Rattle.journal_text.specs.LineParts.{and_then}
 use Rattle.journal_text.specs.LineHeads.{head_in}
-use Rattle.journal_text.specs.Drafts.{most_walks_of, has_walks, is_none_listed, is_clock, changed_leg_of, joined_leg_of, leg_of, with_head, next_number_with, wants_direct_with, draft_step, new_draft, draft_of_line}
+use Rattle.journal_text.specs.Drafts.{most_walks_of, has_walks, is_empty, is_clock, changed_leg_of, joined_leg_of, leg_of, with_head, next_number_with, wants_direct_with, draft_step, new_draft, draft_of_line}
 use Rattle.journal_text.specs.DraftTexts.{is_offer_head, is_removal_head, is_head, head_text, leg_at, walks_from, first_number, direct_text, draft_text, is_commit, most_potentials_of, is_direct_draft, IsDraft}
 use Rattle.journal_text.proofs.Spelling.{both, both_hold, le_from, is_clean}
 use Rattle.journal_text.proofs.HeadsRead.{first_was}
@@ -191,7 +191,7 @@ potentials_stage d ok = by d.potentials refl
     by : (ps : List Potential) → d.potentials ≡ ps → Goes (with_walks d) (numbered_lines (first_number d.head) ps) (record d { potentials = ps; direct = Ahead })
     by [] e = goes_none (with_walks d)
     by (p ∷ ps) e =
-        let walks : has_walks d ≡ true = ok.begun (ap is_none_listed e) in
+        let walks : has_walks d ≡ true = ok.begun (ap is_empty e) in
         let few : length (p ∷ ps) ≤ most_potentials_of d.head (length d.walks) = subst (λ (l : List Potential). length l ≤ most_potentials_of d.head (length d.walks)) e ok.few in
         let valid : list_all is_potential_text (p ∷ ps) ≡ true = sym (ap (list_all is_potential_text) e) ∙ ok.are_potentials in
         let r = goes_potentials (with_walks d) (p ∷ ps)

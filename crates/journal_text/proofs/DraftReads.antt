@@ -23,7 +23,7 @@ use Rattle.journal_text.specs.Forms.{is_32, is_number, largest_value, most_nodes
 use Rattle.journal_text.specs.LineParts.{and_then}
 use Rattle.journal_text.specs.LineRuns.{nodes_of_line, pairs_of_line}
 use Rattle.journal_text.specs.LineHeads.{served_in}
-use Rattle.journal_text.specs.Drafts.{most_walks_of, has_walks, is_none_listed, is_clock, leg_of, behind_the, rest_at_end, next_number_with, replaced_last, lengthened, last_listed, last_node_of, are_pairs_full_in, with_pairs, is_ahead, wants_direct_with, with_direct, walk_direct, direct_in, draft_step}
+use Rattle.journal_text.specs.Drafts.{most_walks_of, has_walks, is_empty, is_clock, leg_of, behind_the, rest_at_end, next_number_with, replaced_last, lengthened, last_listed, last_node_of, are_pairs_full_in, with_pairs, is_ahead, wants_direct_with, with_direct, walk_direct, direct_in, draft_step}
 use Rattle.journal_text.specs.DraftTexts.{leg_at, walks_from, first_number}
 use Rattle.journal_text.proofs.Numbers.{begins_no_digit}
 use Rattle.journal_text.proofs.Spelling.{both, both_hold, le_holds, le_from, is_clean, clean_append, clean_decimal, spaced_append}
@@ -213,8 +213,8 @@ pub first_of_walk : (d : Draft) (leg : ℕ) (nodes : List NodeNo) → HasRoom d 
     → IsRead d (103 ∷ 32 ∷ decimal leg ++ spaced (numbers_of_items node_number nodes)) (record d { walks = d.walks ++ nodes ∷ [] })
 first_of_walk d leg nodes ok some few valid =
     let text : List ℕ = spaced (numbers_of_items node_number nodes) in
-    let may : (is_none_listed d.potentials && nat_lt (length d.walks) (most_walks_of d.head)) ≡ true =
-    both_hold (is_none_listed d.potentials) (nat_lt (length d.walks) (most_walks_of d.head)) (ap is_none_listed ok.none) (let r = ok.room in grind (arith, nat_tests)) in
+    let may : (is_empty d.potentials && nat_lt (length d.walks) (most_walks_of d.head)) ≡ true =
+    both_hold (is_empty d.potentials) (nat_lt (length d.walks) (most_walks_of d.head)) (ap is_empty ok.none) (let r = ok.room in grind (arith, nat_tests)) in
     record {
       step = ap (λ t. and_then (cond t (leg_of d.head (length d.walks)) None) ((one_walk_with_text d) (32 ∷ decimal leg ++ text))) may
           ∙ ap (λ o. and_then o ((one_walk_with_text d) (32 ∷ decimal leg ++ text))) ok.has_leg
@@ -240,8 +240,8 @@ more_of_walk : (d : Draft) (leg : ℕ) (done nodes : List NodeNo) → HasRoom d 
 more_of_walk d leg done nodes ok full begun some few valid =
     let text : List ℕ = spaced (numbers_of_items node_number nodes) in
     let walks : List (List NodeNo) = d.walks ++ done ∷ [] in
-    let may : (is_none_listed d.potentials && is_full_walk (last_walk walks)) ≡ true =
-    both_hold (is_none_listed d.potentials) (is_full_walk (last_walk walks)) (ap is_none_listed ok.none) (ap is_full_walk (last_walk-append d.walks done) ∙ full_walk done full begun) in
+    let may : (is_empty d.potentials && is_full_walk (last_walk walks)) ≡ true =
+    both_hold (is_empty d.potentials) (is_full_walk (last_walk walks)) (ap is_empty ok.none) (ap is_full_walk (last_walk-append d.walks done) ∙ full_walk done full begun) in
     let index : length walks - 1 ≡ length d.walks = omega (arith, length-append d.walks (done ∷ [])) in
     record {
       step = ap (λ t. and_then (cond t (leg_of d.head (length walks - 1)) None) ((longer_with_text d) walks (32 ∷ decimal leg ++ text))) may

@@ -28,7 +28,7 @@ use Rattle.journal_text.specs.Forms.{is_32, is_number, largest_position, most_no
 use Rattle.journal_text.specs.LineParts.{and_then}
 use Rattle.journal_text.specs.LineRuns.{nodes_of_line, pairs_of_line}
 use Rattle.journal_text.specs.LineHeads.{head_in, refusal_in, cancel_refusal_in, behind_in, removal_in, served_in}
-use Rattle.journal_text.specs.Drafts.{most_walks_of, has_walks, is_none_listed, is_clock, changed_leg_of, joined_leg_of, leg_of, with_head, refused_head, removed_head, refuse_step, remove_step, serve_step, next_leg_of, walk_step, behind_the, rest_at_end, next_number_with, potential_step, replaced_last, lengthened, open_leg_of, longer_step, last_listed, last_node_of, are_pairs_full_in, with_pairs, is_ahead, pairs_step, wants_direct_with, with_direct, walk_direct, direct_in, direct_step, longer_direct_in, longer_direct_step, draft_step, new_draft, draft_of_line}
+use Rattle.journal_text.specs.Drafts.{most_walks_of, has_walks, is_empty, is_clock, changed_leg_of, joined_leg_of, leg_of, with_head, refused_head, removed_head, refuse_step, remove_step, serve_step, next_leg_of, walk_step, behind_the, rest_at_end, next_number_with, potential_step, replaced_last, lengthened, open_leg_of, longer_step, last_listed, last_node_of, are_pairs_full_in, with_pairs, is_ahead, pairs_step, wants_direct_with, with_direct, walk_direct, direct_in, direct_step, longer_direct_in, longer_direct_step, draft_step, new_draft, draft_of_line}
 use Rattle.journal_text.specs.DraftTexts.{is_offer_head, is_removal_head, is_head, head_text, leg_at, walks_from, first_number, direct_text, draft_text, is_commit, most_potentials_of, is_direct_draft, IsDraft}
 use Rattle.journal_text.proofs.Spelling.{both, both_hold, le_holds, le_from, same_value, is_clean, clean_append, clean_decimal, short_decimal, was_then, was_if}
 use Rattle.journal_text.proofs.LongLines.{length-nodes, length-pairs, numbers_of_items, node_number, pair_numbers, nodes_are, direct_is, pairs_are, after_short, after_more, full_64, full_32}
@@ -286,7 +286,7 @@ leg_was (Removal asked x) index leg valid e =
     small_joined x (suc index) p q = omega (arith, p, q)
 leg_was head index leg valid e = absurd cc
 
-pub none_listed : (xs : List Potential) → is_none_listed xs ≡ true → xs ≡ []
+pub none_listed : (xs : List Potential) → is_empty xs ≡ true → xs ≡ []
 none_listed [] e = refl
 none_listed (x ∷ xs) e = absurd cc
 
@@ -344,8 +344,8 @@ walk_texts nodes some few valid = both_hold _ _ (le_holds 1 (length nodes) some)
 walk_was : (d : Draft) (rest : List ℕ) (d' : Draft) → IsDraft d → walk_step d rest ≡ Some d' → WasStep d (103 ∷ rest) d'
 walk_was d rest d' ok e =
     let a = was_then (next_leg_of d) _ d' e in
-    let t = was_if (is_none_listed d.potentials && nat_lt (length d.walks) (most_walks_of d.head)) (leg_of d.head (length d.walks)) a.value a.was in
-    let u = both (is_none_listed d.potentials) (nat_lt (length d.walks) (most_walks_of d.head)) t.0 in
+    let t = was_if (is_empty d.potentials && nat_lt (length d.walks) (most_walks_of d.head)) (leg_of d.head (length d.walks)) a.value a.was in
+    let u = both (is_empty d.potentials) (nat_lt (length d.walks) (most_walks_of d.head)) t.0 in
     let room : length d.walks < most_walks_of d.head = grind (arith, nat_tests, u.1) in
     let leg = leg_was d.head (length d.walks) a.value ok.valid t.1 in
     let b = was_then (behind_the rest a.value) _ d' a.gave in
@@ -403,8 +403,8 @@ longer_walk leg (w ∷ walk) (n ∷ nodes) full some few =
 longer_was : (d : Draft) (rest : List ℕ) (d' : Draft) → IsDraft d → longer_step d rest ≡ Some d' → WasStep d (104 ∷ rest) d'
 longer_was d rest d' ok e =
     let a = was_then (open_leg_of d) _ d' e in
-    let t = was_if (is_none_listed d.potentials && is_full_walk (last_walk d.walks)) (leg_of d.head (length d.walks - 1)) a.value a.was in
-    let u = both (is_none_listed d.potentials) (is_full_walk (last_walk d.walks)) t.0 in
+    let t = was_if (is_empty d.potentials && is_full_walk (last_walk d.walks)) (leg_of d.head (length d.walks - 1)) a.value a.was in
+    let u = both (is_empty d.potentials) (is_full_walk (last_walk d.walks)) t.0 in
     let whole = is_full (last_walk d.walks) u.1 in
     let some = some_walks d.walks whole.0 in
     let leg = leg_was d.head (length d.walks - 1) a.value ok.valid t.1 in
@@ -604,7 +604,7 @@ length-with_pairs [] pairs = refl
 length-with_pairs (p ∷ []) pairs = refl
 length-with_pairs (p ∷ next ∷ ps) pairs = ap suc (length-with_pairs (next ∷ ps) pairs)
 
-some_listed : (ps : List Potential) → are_pairs_full_in ps ≡ true → is_none_listed ps ≡ false
+some_listed : (ps : List Potential) → are_pairs_full_in ps ≡ true → is_empty ps ≡ false
 some_listed [] e = absurd cc
 some_listed (p ∷ ps) e = refl
 

@@ -1,6 +1,6 @@
 use Rattle.std.proofs.Common.{◌≡◌, ℕ, zero, suc, ◌+◌, ◌-◌, ◌%◌, ◌≤◌, ◌==◌, Bool, true, false, ◌&&◌, ◌||◌, cond, List, [], ◌∷◌, ◌++◌, length, flat_map, Option, Some, None, refl, sym, ap, ap₂, ◌∙◌, subst, append_assoc, append-nil, arith, eq-eqb}
 use Rattle.std.proofs.lemmas.Bool.Decides.{nat_tests}
-use Rattle.std.specs.Prelude.{nat_le, nat_lt}
+use Rattle.std.specs.Prelude.{is_none, nat_le, nat_lt}
 use Rattle.std.specs.List.{list_all}
 use Rattle.road_graph.specs.declared.road.NodeNo.{NodeNo}
 use Rattle.plain_search.specs.declared.potential.Potential.{Potential}
@@ -28,7 +28,7 @@ use Rattle.journal_text.specs.Groups.{walk_lines, walks_lines, changed_legs, joi
 use Rattle.journal_text.specs.Certificates.{certificate_lines, potential_lines, numbered_lines, direct_lines}
 use Rattle.journal_text.specs.TextGroups.{group_text, goes_on_with, joins_go_on, is_full_walk, last_walk}
 use Rattle.journal_text.specs.Printable.{most_changed, most_joined}
-use Rattle.journal_text.specs.Forms.{is_number, is_32, largest_position, latest_clock, are_so_many, is_ride_text, is_offer_text, is_served_text, is_removal_text, is_walk_text, is_potential_text, is_direct_text, is_certificate_text, is_proof_text, is_none, is_empty, is_entry_text, is_in_form}
+use Rattle.journal_text.specs.Forms.{is_number, is_32, largest_position, latest_clock, are_so_many, is_ride_text, is_offer_text, is_served_text, is_removal_text, is_walk_text, is_potential_text, is_direct_text, is_certificate_text, is_proof_text, is_empty, is_entry_text, is_in_form}
 use Rattle.journal_text.specs.Drafts.{most_walks_of, has_proof_or_none, is_whole_with, is_whole_draft, is_clock, last_listed, new_draft, goes_on_in}
 use Rattle.journal_text.specs.DraftTexts.{is_offer_head, is_removal_head, is_head, head_text, leg_at, walks_from, draft_text, is_commit, most_potentials_of, is_direct_draft, IsDraft, offer_of, removal_of, entry_of, proof_of, joins_of, group_of}
 use Rattle.journal_text.proofs.Spelling.{both, both_hold, le_holds, le_from}

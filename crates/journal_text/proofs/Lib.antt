@@ -1,22 +1,22 @@
 mod WalkLines
 mod Numbers
 mod RunsOfLines
-pub mod Spelling
-pub mod HeadsRead
-pub mod LongLines
-pub mod PartsRead
-pub mod DraftSteps
-pub mod PrintedLines
-pub mod DraftReads
-pub mod DraftLaws
-pub mod GroupLaws
-pub mod ReadLaws
-pub mod WholeGroups
-pub mod JournalLaws
-pub mod PrintedEntries
-pub mod RoundTrips
-pub mod TextPieces
-pub mod LastItems
-pub mod LinesAhead
-pub mod HeldLines
-pub mod NextGroup
+mod Spelling
+mod HeadsRead
+mod LongLines
+mod PartsRead
+mod DraftSteps
+mod PrintedLines
+mod DraftReads
+mod DraftLaws
+mod GroupLaws
+mod ReadLaws
+mod WholeGroups
+mod JournalLaws
+mod PrintedEntries
+mod RoundTrips
+mod TextPieces
+mod LastItems
+mod LinesAhead
+mod HeldLines
+mod NextGroup

@@ -17,7 +17,7 @@ use Rattle.journal_text.specs.declared.draft.Draft.{Draft}
 use Rattle.journal_text.specs.TextGroups.{group_lines, goes_on_with, goes_on_with_line, is_full_walk, last_walk, is_field_end}
 use Rattle.journal_text.specs.Forms.{is_walk_text}
 use Rattle.journal_text.specs.LineParts.{and_then}
-use Rattle.journal_text.specs.Drafts.{is_direct_full_in, most_walks_of, has_walks, has_proof_or_none, is_whole_with, is_whole_draft, is_none_listed, is_clock, leg_of, refused_head, removed_head, refuse_step, remove_step, serve_step, next_leg_of, walk_step, open_leg_of, longer_step, next_number_with, potential_step, are_pairs_full_in, is_ahead, pairs_step, wants_direct_with, direct_step, longer_direct_in, longer_direct_step, draft_step, draft_of_line, goes_on_in, head_goes_on_in, walks_go_on_in}
+use Rattle.journal_text.specs.Drafts.{is_direct_full_in, most_walks_of, has_walks, has_proof_or_none, is_whole_with, is_whole_draft, is_empty, is_clock, leg_of, refused_head, removed_head, refuse_step, remove_step, serve_step, next_leg_of, walk_step, open_leg_of, longer_step, next_number_with, potential_step, are_pairs_full_in, is_ahead, pairs_step, wants_direct_with, direct_step, longer_direct_in, longer_direct_step, draft_step, draft_of_line, goes_on_in, head_goes_on_in, walks_go_on_in}
 use Rattle.journal_text.specs.DraftTexts.{draft_text, is_commit, most_potentials_of, is_direct_draft, IsDraft, group_of}
 use Rattle.journal_text.proofs.Spelling.{both, both_hold, is_clean, was_then, was_if, le_from}
 use Rattle.journal_text.proofs.DraftSteps.{step_was, begin_was, with_head_was, with_direct_was, no_length, none_listed}
@@ -128,7 +128,7 @@ refuse_goes d rest d' whole e =
   where
     by : (head : Head) (served : List (VehicleNo × Served)) → d.head ≡ head → d.served ≡ served → (head' : Head) → refused_head head served rest ≡ Some head' → goes_on_in d 120 ≡ true
     by (Ride r Accepted) served h s head' f = ap (λ (x : Head). head_goes_on_in x d 120) h
-    by (Clock now) [] h s head' f = ap (λ (x : Head). head_goes_on_in x d 120) h ∙ ap is_none_listed s
+    by (Clock now) [] h s head' f = ap (λ (x : Head). head_goes_on_in x d 120) h ∙ ap is_empty s
     by (Asked asked) served h s head' f = absurd (never (sym (ap (λ (x : Head). is_whole_with x (nat_le (most_walks_of x) (length d.walks + 1)) (has_proof_or_none d.direct d.potentials)) h) ∙ whole))
       where
         never : false ≡ true → ⊥
@@ -171,16 +171,16 @@ with_legs d index leg letter e other may = by d.head refl e
 walk_goes : (d : Draft) (rest : List ℕ) (d' : Draft) → walk_step d rest ≡ Some d' → goes_on_in d 103 ≡ true
 walk_goes d rest d' e =
     let a = was_then (next_leg_of d) _ d' e in
-    let t = was_if (is_none_listed d.potentials && nat_lt (length d.walks) (most_walks_of d.head)) (leg_of d.head (length d.walks)) a.value a.was in
-    let u = both (is_none_listed d.potentials) _ t.0 in
-    with_legs d (length d.walks) a.value 103 t.1 refl (both_hold (is_none_listed d.potentials) true u.0 refl)
+    let t = was_if (is_empty d.potentials && nat_lt (length d.walks) (most_walks_of d.head)) (leg_of d.head (length d.walks)) a.value a.was in
+    let u = both (is_empty d.potentials) _ t.0 in
+    with_legs d (length d.walks) a.value 103 t.1 refl (both_hold (is_empty d.potentials) true u.0 refl)
 
 longer_goes : (d : Draft) (rest : List ℕ) (d' : Draft) → longer_step d rest ≡ Some d' → goes_on_in d 104 ≡ true
 longer_goes d rest d' e =
     let a = was_then (open_leg_of d) _ d' e in
-    let t = was_if (is_none_listed d.potentials && is_full_walk (last_walk d.walks)) (leg_of d.head (length d.walks - 1)) a.value a.was in
-    let u = both (is_none_listed d.potentials) (is_full_walk (last_walk d.walks)) t.0 in
-    with_legs d (length d.walks - 1) a.value 104 t.1 refl (both_hold (is_none_listed d.potentials) (is_full_walk (last_walk d.walks)) u.0 u.1)
+    let t = was_if (is_empty d.potentials && is_full_walk (last_walk d.walks)) (leg_of d.head (length d.walks - 1)) a.value a.was in
+    let u = both (is_empty d.potentials) (is_full_walk (last_walk d.walks)) t.0 in
+    with_legs d (length d.walks - 1) a.value 104 t.1 refl (both_hold (is_empty d.potentials) (is_full_walk (last_walk d.walks)) u.0 u.1)
 
 potential_goes : (d : Draft) (rest : List ℕ) (d' : Draft) → potential_step d rest ≡ Some d' → goes_on_in d 117 ≡ true
 potential_goes d rest d' e =
@@ -194,7 +194,7 @@ potential_goes d rest d' e =
     by (Removal asked x) h direct true f = ap (λ (y : Head). head_goes_on_in y d 117) h
     by head h direct true f = absurd cc
 
-some_pairs : (ps : List Potential) → are_pairs_full_in ps ≡ true → is_none_listed ps ≡ false
+some_pairs : (ps : List Potential) → are_pairs_full_in ps ≡ true → is_empty ps ≡ false
 some_pairs [] e = absurd cc
 some_pairs (p ∷ ps) e = refl
 
@@ -211,21 +211,21 @@ pairs_goes d rest d' ok whole e =
     whole_at : (head : Head) → d.head ≡ head → is_whole_with head (nat_le (most_walks_of head) (length d.walks + 1)) (has_proof_or_none d.direct d.potentials) ≡ true
     whole_at head h = sym (ap (λ (x : Head). is_whole_with x (nat_le (most_walks_of x) (length d.walks + 1)) (has_proof_or_none d.direct d.potentials)) h) ∙ whole
 
-    broken : (direct : Direct) → d.direct ≡ direct → is_ahead direct ≡ true → is_none_listed d.potentials ≡ false → has_proof_or_none d.direct d.potentials ≡ true → goes_on_in d 119 ≡ true
+    broken : (direct : Direct) → d.direct ≡ direct → is_ahead direct ≡ true → is_empty d.potentials ≡ false → has_proof_or_none d.direct d.potentials ≡ true → goes_on_in d 119 ≡ true
     broken Ahead h a some p = never (sym (ap (λ (x : Direct). has_proof_or_none x d.potentials) h ∙ some) ∙ p)
     broken Absent h a some p = never a
     broken (Walk nodes) h a some p = never a
 
-    few_none : (head : Head) → d.head ≡ head → most_potentials_of head (length d.walks) ≡ 0 → is_none_listed d.potentials ≡ false → goes_on_in d 119 ≡ true
+    few_none : (head : Head) → d.head ≡ head → most_potentials_of head (length d.walks) ≡ 0 → is_empty d.potentials ≡ false → goes_on_in d 119 ≡ true
     few_none head h zero' some =
         let none : d.potentials ≡ [] = no_length d.potentials (omega (arith, subst (λ (x : Head). length d.potentials ≤ most_potentials_of x (length d.walks)) h ok.few, zero')) in
-        never (sym some ∙ ap is_none_listed none)
+        never (sym some ∙ ap is_empty none)
 
     last_one : (a b : Bool) → b ≡ true → (false || (a || b)) ≡ true
     last_one true b e = refl
     last_one false b e = e
 
-    by : (head : Head) → d.head ≡ head → (direct : Direct) → d.direct ≡ direct → is_ahead direct ≡ true → are_pairs_full_in d.potentials ≡ true → is_none_listed d.potentials ≡ false → goes_on_in d 119 ≡ true
+    by : (head : Head) → d.head ≡ head → (direct : Direct) → d.direct ≡ direct → is_ahead direct ≡ true → are_pairs_full_in d.potentials ≡ true → is_empty d.potentials ≡ false → goes_on_in d 119 ≡ true
     by (Removal asked x) h direct k a full some = ap (λ (y : Head). head_goes_on_in y d 119) h ∙ last_one (walks_go_on_in d 119) (are_pairs_full_in d.potentials) full
     by (Offer asked o) h direct k a full some = broken direct k a some (both _ (has_proof_or_none d.direct d.potentials) (whole_at (Offer asked o) h)).1
     by (Nobody asked) h direct k a full some = broken direct k a some (whole_at (Nobody asked) h)
@@ -240,11 +240,11 @@ direct_goes d rest d' whole e =
     whole_at head h direct k = sym (ap (λ (x : Head). is_whole_with x (nat_le (most_walks_of x) (length d.walks + 1)) (has_proof_or_none d.direct d.potentials)) h
         ∙ ap (λ (x : Direct). is_whole_with head (nat_le (most_walks_of head) (length d.walks + 1)) (has_proof_or_none x d.potentials)) k) ∙ whole
 
-    broken : (length d.potentials == 4) ≡ true → is_none_listed d.potentials ≡ true → goes_on_in d 101 ≡ true
+    broken : (length d.potentials == 4) ≡ true → is_empty d.potentials ≡ true → goes_on_in d 101 ≡ true
     broken four none = never (sym (ap (λ (ps : List Potential). length ps == 4) (none_listed d.potentials none)) ∙ four)
 
     by : (head : Head) → d.head ≡ head → (direct : Direct) → d.direct ≡ direct → wants_direct_with head direct (length d.potentials) ≡ true → goes_on_in d 101 ≡ true
-    by (Offer asked o) h Ahead k wants = broken wants (both _ (is_none_listed d.potentials) (whole_at (Offer asked o) h Ahead k)).1
+    by (Offer asked o) h Ahead k wants = broken wants (both _ (is_empty d.potentials) (whole_at (Offer asked o) h Ahead k)).1
     by (Nobody asked) h Ahead k wants = broken wants (whole_at (Nobody asked) h Ahead k)
     by head h direct k wants = absurd cc
 

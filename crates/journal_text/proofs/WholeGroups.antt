@@ -14,7 +14,7 @@ use Rattle.journal_text.specs.declared.draft.Draft.{Draft}
 use Rattle.journal_text.specs.Groups.{spaced, cancel_reason_text}
 use Rattle.journal_text.specs.Forms.{largest_number}
 use Rattle.journal_text.specs.LineParts.{and_then}
-use Rattle.journal_text.specs.Drafts.{most_walks_of, has_walks, has_proof_or_none, is_whole_with, is_whole_draft, is_none_listed, with_head, refused_head, next_number_with, wants_direct_with, with_direct, direct_in, draft_step}
+use Rattle.journal_text.specs.Drafts.{most_walks_of, has_walks, has_proof_or_none, is_whole_with, is_whole_draft, is_empty, with_head, refused_head, next_number_with, wants_direct_with, with_direct, direct_in, draft_step}
 use Rattle.journal_text.specs.DraftTexts.{is_head, leg_at, first_number, draft_text, is_commit, most_potentials_of, IsDraft}
 use Rattle.journal_text.proofs.Spelling.{both_hold, le_holds, le_from}
 use Rattle.journal_text.proofs.PrintedLines.{cancel_refusal_read}
@@ -53,9 +53,9 @@ clash true e f = absurd cc
 clash false e f = absurd cc
 
 not_listed : (d : Draft) → IsDraft d → has_walks d ≡ false → d.potentials ≡ []
-not_listed d ok e = by (is_none_listed d.potentials) refl
+not_listed d ok e = by (is_empty d.potentials) refl
   where
-    by : (t : Bool) → is_none_listed d.potentials ≡ t → d.potentials ≡ []
+    by : (t : Bool) → is_empty d.potentials ≡ t → d.potentials ≡ []
     by true t = none_listed d.potentials t
     by false t = clash (has_walks d) (ok.begun t) e
 

@@ -23,7 +23,7 @@ use Rattle.journal_text.specs.declared.draft.Draft.{Draft}
 use Rattle.journal_text.specs.Groups.{numbers_line, ride_line, served_line, refusal_line, cancel_reason_text, moved_lines, submitted_lines, walk_lines}
 use Rattle.journal_text.specs.Certificates.{direct_lines, numbered_lines}
 use Rattle.journal_text.specs.Forms.{latest_clock, largest_position, is_number, is_32, is_ride_text, is_served_text, is_walk_text, is_potential_text}
-use Rattle.journal_text.specs.Drafts.{most_walks_of, has_walks, is_none_listed, is_clock, changed_leg_of, joined_leg_of}
+use Rattle.journal_text.specs.Drafts.{most_walks_of, has_walks, is_empty, is_clock, changed_leg_of, joined_leg_of}
 
 -- The lines that came to a group as far as it was read, and what holds of each such group.
 
@@ -114,7 +114,7 @@ pub record IsDraft (d : Draft) : Type 0 where
   pub are_walks : list_all is_walk_text d.walks ≡ true
   pub few : length d.potentials ≤ most_potentials_of d.head (length d.walks)
   pub are_potentials : list_all is_potential_text d.potentials ≡ true
-  pub begun : is_none_listed d.potentials ≡ false → has_walks d ≡ true
+  pub begun : is_empty d.potentials ≡ false → has_walks d ≡ true
   pub is_direct : is_direct_draft d.head d.potentials d.direct ≡ true
 
 -- The group of the lines that were read, where they are whole.

@@ -12,6 +12,7 @@ use Rattle.journal_text.specs.declared.heads.Head.TheVariants.{Ride, Offer, Nobo
 use Rattle.journal_text.specs.declared.draft.Direct.{Direct}
 use Rattle.journal_text.specs.declared.draft.Direct.TheVariants.{Ahead, Absent, Walk}
 use Rattle.journal_text.specs.declared.draft.Draft.{Draft}
+pub use Rattle.journal_text.specs.Forms.{is_empty}
 use Rattle.journal_text.specs.Forms.{largest_value, most_nodes}
 use Rattle.journal_text.specs.TextGroups.{is_full_walk, last_walk, is_field_end}
 use Rattle.journal_text.specs.LineParts.{and_then, number_ahead}
@@ -29,13 +30,9 @@ most_walks_of head = 0
 abbrev pub has_walks : Draft → Bool
 has_walks d = nat_le (most_walks_of d.head) (length d.walks + 1)
 
-abbrev pub is_none_listed : {X : Type 0} → List X → Bool
-is_none_listed [] = true
-is_none_listed (x ∷ xs) = false
-
 -- a certificate was read to its direct walk, or wasn't begun
 abbrev pub has_proof_or_none : Direct → List Potential → Bool
-has_proof_or_none Ahead potentials = is_none_listed potentials
+has_proof_or_none Ahead potentials = is_empty potentials
 has_proof_or_none Absent potentials = true
 has_proof_or_none (Walk nodes) potentials = true
 
@@ -111,7 +108,7 @@ serve_step d rest = cond (is_clock d.head) (and_then (served_in rest) (λ (stop 
 
 -- the leg of the next walk, where one may come
 abbrev pub next_leg_of : Draft → Option ℕ
-next_leg_of d = cond (is_none_listed d.potentials && nat_lt (length d.walks) (most_walks_of d.head)) (leg_of d.head (length d.walks)) None
+next_leg_of d = cond (is_empty d.potentials && nat_lt (length d.walks) (most_walks_of d.head)) (leg_of d.head (length d.walks)) None
 
 -- `g LEG N1 .. Nk`
 abbrev pub walk_step : Draft → List ℕ → Option Draft
@@ -147,7 +144,7 @@ lengthened walk nodes = cond (nat_le (length walk + length nodes) most_nodes) (S
 
 -- the leg of the last walk, where it may go on
 abbrev pub open_leg_of : Draft → Option ℕ
-open_leg_of d = cond (is_none_listed d.potentials && is_full_walk (last_walk d.walks)) (leg_of d.head (length d.walks - 1)) None
+open_leg_of d = cond (is_empty d.potentials && is_full_walk (last_walk d.walks)) (leg_of d.head (length d.walks - 1)) None
 
 -- `h LEG Nx .. Ny`
 abbrev pub longer_step : Draft → List ℕ → Option Draft
@@ -254,7 +251,7 @@ more_listed potentials rest = and_then (pairs_of_line rest (last_node_of (last_l
 -- Whether a line of that letter goes on with a group that is whole.
 
 abbrev pub walks_go_on_in : Draft → (letter : ℕ) → Bool
-walks_go_on_in d letter = is_none_listed d.potentials && ((letter == 103) || (letter == 104 && is_full_walk (last_walk d.walks)))
+walks_go_on_in d letter = is_empty d.potentials && ((letter == 103) || (letter == 104 && is_full_walk (last_walk d.walks)))
 
 abbrev pub pairs_go_on_in : Draft → (letter : ℕ) → Bool
 pairs_go_on_in d letter = letter == 119 && are_pairs_full_in d.potentials
@@ -269,7 +266,7 @@ direct_goes_on_in d letter = letter == 102 && is_direct_full_in d.direct
 
 abbrev pub head_goes_on_in : Head → Draft → (letter : ℕ) → Bool
 head_goes_on_in (Ride r Accepted) d letter = letter == 120
-head_goes_on_in (Clock now) d letter = (letter == 115) || (letter == 120 && is_none_listed d.served)
+head_goes_on_in (Clock now) d letter = (letter == 115) || (letter == 120 && is_empty d.served)
 head_goes_on_in (Offer asked offer) d letter = (letter == 117) || (walks_go_on_in d letter || direct_goes_on_in d letter)
 head_goes_on_in (Nobody asked) d letter = (letter == 117) || direct_goes_on_in d letter
 head_goes_on_in (Removal asked removal) d letter = (letter == 117) || (walks_go_on_in d letter || pairs_go_on_in d letter)

@@ -1,6 +1,9 @@
-use Rattle.std.specs.Prelude.{ℕ, ◌+◌, ◌^◌, ◌-◌, ◌&&◌, nat_le, nat_lt, Bool, true, false, List, [], ◌∷◌, length, Option, Some, None}
+use Rattle.std.specs.Prelude.{ℕ, ◌+◌, ◌^◌, ◌-◌, ◌&&◌, nat_le, nat_lt, Bool, true, false, List, [], ◌∷◌, length, Option, Some, None, is_none}
 use Rattle.std.specs.List.{list_all}
 use Rattle.road_graph.specs.declared.road.NodeNo.{NodeNo}
+pub use Rattle.ride_base.specs.Fields.{largest_32}
+pub use Rattle.road_graph.specs.Limits.{most_nodes}
+pub use Rattle.stop_schedule.specs.Limits.{latest_moment as latest_clock, most_stops as largest_position}
 use Rattle.plain_search.specs.declared.potential.Potential.{Potential}
 use Rattle.ride_base.specs.declared.numbers.VehicleNo.{VehicleNo}
 use Rattle.stop_schedule.specs.declared.request.Request.{Request}
@@ -23,25 +26,9 @@ use Rattle.journal_text.specs.Printable.{most_changed, most_joined}
 abbrev pub largest_number : ℕ
 largest_number = 2 ^ 62
 
--- the latest clock
-abbrev pub latest_clock : ℕ
-latest_clock = 2 ^ 40
-
--- the largest number of a node, of riders and of a vehicle
-abbrev pub largest_32 : ℕ
-largest_32 = 2 ^ 32 - 1
-
--- the largest position in a list of stops
-abbrev pub largest_position : ℕ
-largest_position = 64
-
 -- the largest value of a potential
 abbrev pub largest_value : ℕ
 largest_value = 2 ^ 53 - 1
-
--- the most nodes of a walk
-abbrev pub most_nodes : ℕ
-most_nodes = 2097152
 
 abbrev pub is_number : ℕ → Bool
 is_number n = nat_le n largest_number
@@ -106,10 +93,6 @@ is_certificate_text c =
 abbrev pub is_proof_text : Option Certificate → Bool
 is_proof_text None = true
 is_proof_text (Some c) = is_certificate_text c
-
-abbrev pub is_none : {X : Type 0} → Option X → Bool
-is_none None = true
-is_none (Some x) = false
 
 abbrev pub is_empty : {X : Type 0} → List X → Bool
 is_empty [] = true

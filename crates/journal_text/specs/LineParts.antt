@@ -1,13 +1,9 @@
 use Rattle.std.specs.Prelude.{ℕ, ◌==◌, not, Bool, false, cond, List, [], ◌∷◌, take, drop, Option, Some, None}
 use Rattle.std.specs.List.{position_or_len}
 use Rattle.ride_base.specs.Digits.{is_digit, number_of}
+pub use Rattle.ride_base.specs.Options.{and_then}
 
 -- The parts of a journal's line as they are read one after another, each behind one space.
-
--- what comes of a part that was read, where it was
-abbrev pub and_then : {X Y : Type 0} → Option X → (X → Option Y) → Option Y
-and_then None next = None
-and_then (Some x) next = next x
 
 -- what stands behind a space at the front
 abbrev pub behind_space_of : List ℕ → Option (List ℕ)

@@ -1,5 +1,6 @@
 use Rattle.std.specs.Prelude.{◌≡◌, ℕ, List, [], ◌∷◌, ◌++◌, flat_map, replicate, codes, refl}
 use Rattle.std.specs.Fmt.{digits}
+use Rattle.ride_base.specs.Pieces.{with_line_end as text_line}
 use Rattle.road_graph.specs.Roads.{node}
 use Rattle.stop_schedule.specs.declared.stop.StopKind.TheVariants.{Pickup}
 use Rattle.stop_schedule.specs.Samples.{ride, path, at}
@@ -11,9 +12,6 @@ use Rattle.board_core.specs.declared.entry.CancelReason.TheVariants as why
 use Rattle.board_core.specs.declared.entry.Cancelled.TheVariants.{Removed, Refused as Declined}
 use Rattle.board_core.specs.declared.entry.Entry.TheVariants.{Submit, Claim, Back, Commit, Advance, Cancel, Shut}
 use Rattle.journal_text.specs.Groups.{group, journal_of, walk_lines}
-
-abbrev text_line : List ℕ → List ℕ
-text_line text = text ++ 10 ∷ []
 
 a_ride : group (Submit (ride 1 2 4 0 1) Accepted) ≡ text_line (codes "r 1 2 4 0 1")
 unfolding digits
@@ -52,17 +50,20 @@ unfolding digits
 nobody = refl
 
 -- a rider cancels and one leg is joined, or none; another one did before
-cancelled : group (Cancel (record { 0 = 1 }) (Removed (record { no = record { 0 = 1 }; pickup = 1; dropoff = 4; walks = path 1 0 (2 ∷ 3 ∷ []) (10 ∷ 20 ∷ []) ∷ [] })))
+cancelled : group (Cancel (record { 0 = 1 })
+    (Removed (record { no = record { 0 = 1 }; pickup = 1; dropoff = 4; walks = path 1 0 (2 ∷ 3 ∷ []) (10 ∷ 20 ∷ []) ∷ [] })))
     ≡ text_line (codes "y 1") ++ text_line (codes "o 1 1 1 4") ++ text_line (codes "g 0 1 2 3")
 unfolding digits
 cancelled = refl
 
-cancelled_alone : group (Cancel (record { 0 = 1 }) (Removed (record { no = record { 0 = 1 }; pickup = 1; dropoff = 2; walks = [] }))) ≡ text_line (codes "y 1") ++ text_line (codes "o 1 1 1 2")
+cancelled_alone : group (Cancel (record { 0 = 1 }) (Removed (record { no = record { 0 = 1 }; pickup = 1; dropoff = 2; walks = [] })))
+    ≡ text_line (codes "y 1") ++ text_line (codes "o 1 1 1 2")
 unfolding digits
 cancelled_alone = refl
 
 -- two joined legs, the second of them behind the stops that stay between the two
-joined_twice : group (Cancel (record { 0 = 5 }) (Removed (record { no = record { 0 = 2 }; pickup = 2; dropoff = 5; walks = path 1 0 [] [] ∷ path 3 0 [] [] ∷ [] })))
+joined_twice : group (Cancel (record { 0 = 5 })
+    (Removed (record { no = record { 0 = 2 }; pickup = 2; dropoff = 5; walks = path 1 0 [] [] ∷ path 3 0 [] [] ∷ [] })))
     ≡ text_line (codes "y 5") ++ text_line (codes "o 5 2 2 5") ++ text_line (codes "g 1 1") ++ text_line (codes "g 3 3")
 unfolding digits
 joined_twice = refl
@@ -71,11 +72,14 @@ not_known : group (Cancel (record { 0 = 7 }) (Declined why.Unknown)) ≡ text_li
 unfolding digits
 not_known = refl
 
-claimed : journal_of (Claim (record { 0 = 7 }) 2 ∷ Back (record { 0 = 7 }) ∷ Shut ∷ []) ≡ text_line (codes "k 7 2") ++ text_line (codes "b 7") ++ text_line (codes "z")
+claimed : journal_of (Claim (record { 0 = 7 }) 2 ∷ Back (record { 0 = 7 }) ∷ Shut ∷ [])
+    ≡ text_line (codes "k 7 2") ++ text_line (codes "b 7") ++ text_line (codes "z")
 unfolding digits
 claimed = refl
 
-served : group (Advance 12 (Moved ((record { 0 = 1 }, record { kind = Pickup; no = record { 0 = 1 }; node = node 2; arr = 10; dep = 12 }) ∷ []))) ≡ text_line (codes "t 12") ++ text_line (codes "s 1 1 p 2 10 12")
+served : group (Advance 12
+    (Moved ((record { 0 = 1 }, record { kind = Pickup; no = record { 0 = 1 }; node = node 2; arr = 10; dep = 12 }) ∷ [])))
+    ≡ text_line (codes "t 12") ++ text_line (codes "s 1 1 p 2 10 12")
 unfolding digits
 served = refl
 

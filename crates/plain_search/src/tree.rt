@@ -38,7 +38,8 @@ impl Model for Reach {
 
     ghost Value = { Listing };
 
-    ghost view = { λ r. record { way = r.way; start = r.start; radius = r.radius; listed = r.listed } };
+    ghost view = { λ r.
+        record { way = r.way; start = r.start; radius = r.radius; listed = r.listed } };
 
     ghost invariant = { λ r. ArePlaces r.listed r.marks × IsRadius r.radius };
 }

@@ -362,8 +362,7 @@ fn other_forms_are_not_answered_yet(rt: HostRuntime) -> Result<(), Fail> {
         rt.alloc(),
         &["audit", "graph", "fleet", "stream"],
         Status::NotYet,
-    )?;
-    words_end(&rt, rt.alloc(), &["gen", "7"], Status::NotYet)
+    )
 }
 
 /// Runs, and asserts that the status is not want of memory.

@@ -2,11 +2,15 @@
 #![tactic(auto)]
 
 #[cfg(test)]
+mod cities;
+#[cfg(test)]
 mod clock;
 #[cfg(test)]
 mod endings;
 #[cfg(test)]
 mod events;
+#[cfg(test)]
+mod journals;
 #[cfg(test)]
 mod lines;
 #[cfg(test)]

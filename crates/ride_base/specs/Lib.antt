@@ -9,4 +9,5 @@ pub mod Fields
 pub mod Stored
 pub mod Buffers
 pub mod Limits
+pub mod Options
 pub mod Told

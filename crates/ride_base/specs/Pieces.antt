@@ -1,4 +1,4 @@
-use Rattle.std.specs.Prelude.{◌≡◌, ◌⊎◌, ℕ, ◌+◌, ◌-◌, ◌==◌, nat_lt, nat_le, ◌&&◌, Bool, true, false, cond, List, [], ◌∷◌, length, position, is_some, refl}
+use Rattle.std.specs.Prelude.{◌≡◌, ◌⊎◌, ℕ, ◌+◌, ◌-◌, ◌==◌, nat_lt, nat_le, ◌&&◌, Bool, true, false, cond, List, [], ◌∷◌, ◌++◌, length, position, is_some, refl}
 use Rattle.std.specs.List.{slice_split, after_first}
 use Rattle.std.specs.Str.Lines.{strip_carriage_return}
 
@@ -45,6 +45,10 @@ IsRefused pieces = (pieces ≡ TooLong ∷ []) ⊎ (pieces ≡ TooLarge ∷ [])
 -- what stands after the first line end, or nothing where there is none
 abbrev pub after_line : List ℕ → List ℕ
 after_line text = after_first is_line_end text
+
+-- a line with its end
+abbrev pub with_line_end : List ℕ → List ℕ
+with_line_end line = line ++ 10 ∷ []
 
 -- whether the first line of a text is ended by a line end
 abbrev pub is_ended : List ℕ → Bool

@@ -1,4 +1,4 @@
-use Rattle.std.specs.Prelude.{◌≡◌, ℕ, suc, ◌+◌, ◌<◌, ◌≤◌, nat_eq, cond, List, [], ◌∷◌, length, take, map, Option, Some, None, slice_index, refl}
+use Rattle.std.specs.Prelude.{◌≡◌, ℕ, suc, ◌+◌, ◌<◌, ◌≤◌, nat_eq, cond, List, [], ◌∷◌, length, take, map, Option, Some, None, slice_index, MatchOption, refl}
 use Rattle.std.specs.List.{IsDistinct}
 use Rattle.road_graph.specs.declared.road.NodeNo.{NodeNo}
 use Rattle.road_graph.specs.Roads.{Roads, is_node, least_weight, node, example}
@@ -56,6 +56,10 @@ pub record IsLeastWalk (g : Roads) (u v : NodeNo) (w : Path) : Type 0 where
   pub measured : IsMeasured g w
   pub simple : IsSimple w.nodes
   pub least : IsDist g u v (length_of w)
+
+-- a least walk from u to v, or none where there is no walk
+abbrev pub IsLeastWalkOrNone : Roads → NodeNo → NodeNo → Option Path → Type 0
+IsLeastWalkOrNone g u v found = MatchOption found (NoWalk g u v) (IsLeastWalk g u v)
 
 two_steps : walk_length example (node 1 ∷ node 2 ∷ node 3 ∷ []) ≡ Some 4294967300
 two_steps = refl

@@ -58,7 +58,8 @@ impl Model for Graph {
 
     ghost view = { λ g. record { nodes = g.nodes; roads = g.listed.roads } };
 
-    ghost invariant = { λ g. IsRowed (record { nodes = g.nodes; roads = g.listed.roads }) g.outs g.ins };
+    ghost invariant = { λ g.
+        IsRowed (record { nodes = g.nodes; roads = g.listed.roads }) g.outs g.ins };
 }
 
 impl Graph {

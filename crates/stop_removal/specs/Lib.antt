@@ -1,5 +1,4 @@
 pub mod Removals
-pub mod Walkers
 pub mod Laws
 pub mod Samples
 pub use Rattle.stop_schedule.specs.Plans

@@ -5,7 +5,7 @@ use Rattle.stop_schedule.specs.declared.stop.Stop.{Stop}
 use Rattle.stop_schedule.specs.Fronts.{front_of}
 use Rattle.stop_schedule.specs.Lists.{inserted_in}
 use Rattle.stop_schedule.specs.Plans.{Plan}
-use Rattle.stop_schedule.specs.Samples.{first, second, path, ride, at}
+use Rattle.stop_schedule.specs.Samples.{first, second, halted, path, ride, at}
 use Rattle.stop_removal.specs.Laws.{stood_at}
 use Rattle.stop_removal.specs.Removals.{joint_ends, removed_in, with_joined, without_both, AreStopsOf}
 
@@ -19,9 +19,6 @@ none_left : removed_in first (front_of first 5) 1 2 [] ≡ record first { place 
 none_left = refl
 
 -- before it leaves it stays as it was, with its mark where it halts at its place
-abbrev pub halted : Plan
-halted = record first { halt = true }
-
 not_begun : removed_in halted (front_of halted 0) 1 2 [] ≡ record halted { stops = []; legs = [] }
 not_begun = refl
 

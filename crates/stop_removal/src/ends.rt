@@ -1,21 +1,8 @@
 ghost use Rattle.std.specs.Prelude.{◌≡◌, ℕ, ◌+◌, ◌<◌, ◌≤◌, length, flat_map, option_to_list};
 ghost use Rattle.stop_removal.specs.Removals.{joint_ends, joint_over, joints_of};
-ghost use Rattle.stop_schedule.specs.Lists.{node_at};
 
 use road_graph::NodeNo;
-use stop_schedule::{Front, Schedule, Stop};
-
-/// The node of stop k, counted from 1, and of the front for 0.
-fn node_at(front: &Front, stops: &[Stop], k: usize) -> NodeNo
-    requires { k ≤ length stops.now }
-    ensures { result ≡ node_at front.now stops.now k }
-{
-    if k == 0 {
-        front.node
-    } else {
-        stops[k - 1].node
-    }
-}
+use stop_schedule::{Front, Schedule, Stop, node_at};
 
 /// From one stop, or from the front for 0, over another stop to the next one, where there is one.
 fn joint_over(front: &Front, stops: &[Stop], from: usize, over: usize) -> Option<(NodeNo, NodeNo)>

@@ -1,7 +1,7 @@
 ghost use Rattle.std.specs.Prelude.{◌≡◌, ◌≤◌, IfOk};
 ghost use Rattle.road_graph.specs.Graphs.{IsGraph};
 ghost use Rattle.road_graph.specs.Roads.{Roads, IsNode};
-ghost use Rattle.stop_removal.specs.Walkers.{IsLeastOrNone};
+ghost use Rattle.road_graph.specs.Walks.{IsLeastWalkOrNone};
 
 use ride_base::NoMemory;
 use road_graph::{NodeNo, Steps, Walk};
@@ -23,7 +23,7 @@ pub trait Walker {
     ) -> Result<Option<Walk>, NoMemory>
         requires from { IsNode (graph self.now) from }
         requires to { IsNode (graph self.now) to }
-        ensures walk { IfOk result (IsLeastOrNone (graph self.now) from to) }
+        ensures walk { IfOk result (IsLeastWalkOrNone (graph self.now) from to) }
         ensures kept { IsGraph (graph self.now) }
         ensures steps { steps.old.0 ≤ steps.new.0 }
         ensures asks { steps.new.1 ≡ steps.old.1 };

@@ -15,6 +15,10 @@ pickup_of r promise = record { node = r.pickup; kind = Pickup; no = r.no; riders
 abbrev pub dropoff_of : Request → Promise → Stop
 dropoff_of r promise = record { node = r.dropoff; kind = Dropoff; no = r.no; riders = r.riders; ready = 0; limit = promise.arrival; spaces = r.spaces }
 
+-- the pair of places after stop i and after stop j
+abbrev pub pair : (i j : ℕ) → Insertion
+pair i j = record { i = i; j = j }
+
 -- the pair of places is one of a list of so many stops: the pickup comes after stop i, the dropoff no sooner than after it
 abbrev pub IsInsertionInto : Insertion → (stops : ℕ) → Type 0
 IsInsertionInto at stops = (at.i ≤ at.j) × (at.j ≤ stops)

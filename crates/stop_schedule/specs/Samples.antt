@@ -2,7 +2,6 @@ use Rattle.std.specs.Prelude.{◌≡◌, ℕ, true, false, List, [], ◌∷◌, 
 use Rattle.road_graph.specs.Paths.{Path}
 use Rattle.road_graph.specs.Roads.{node}
 use Rattle.stop_schedule.specs.declared.request.Request.{Request}
-use Rattle.stop_schedule.specs.declared.stop.Insertion.{Insertion}
 use Rattle.stop_schedule.specs.declared.stop.SeatKind.TheVariants.{Seat, Space}
 use Rattle.stop_schedule.specs.declared.stop.Stop.{Stop}
 use Rattle.stop_schedule.specs.declared.stop.StopKind.TheVariants.{Pickup, Dropoff}
@@ -12,6 +11,7 @@ use Rattle.stop_schedule.specs.Plans.{Plan, course_of, opening_of, from_front}
 use Rattle.stop_schedule.specs.Times.{departs, arrives, stop_time, stop_times, aboard}
 use Rattle.stop_schedule.specs.Fronts.{front_of}
 use Rattle.stop_schedule.specs.Lists.{inserted_in, new_course, changed_ends, started}
+pub use Rattle.stop_schedule.specs.Lists.{pair as at}
 use Rattle.stop_schedule.specs.Keeping.{keeps, is_feasible, is_seated}
 
 -- A line of four nodes, both ways, each road of length 10, and one vehicle at node 1 with two seats.
@@ -24,9 +24,6 @@ car_1 = record { no = record { 0 = 1 }; start = node 1; seats = 2; from = 0; unt
 
 abbrev pub ride : ℕ → ℕ → ℕ → ℕ → ℕ → Request
 ride number pickup dropoff moment riders = record { no = record { 0 = number }; pickup = node pickup; dropoff = node dropoff; moment = moment; riders = riders; spaces = 0 }
-
-abbrev pub at : ℕ → ℕ → Insertion
-at i j = record { i = i; j = j }
 
 abbrev pub opened : Plan
 opened = opening_of car_1
@@ -135,7 +132,7 @@ moved_on : (from_front (front_of (record first { halt = true }) 5) (record first
 moved_on = refl
 
 -- an insertion behind a stop keeps it though the vehicle is under way, and one before it loses it
-abbrev halted : Plan
+abbrev pub halted : Plan
 halted = record first { halt = true }
 
 behind_a_stop : (started (at 1 1) (front_of halted 5) halted).halt ≡ true

@@ -1,12 +1,24 @@
 ghost use Rattle.std.specs.Prelude.{◌≡◌, ◌≤◌, ◌++◌, length, IfOk, OnErr, OnOk};
 ghost use Rattle.stop_schedule.specs.Limits.{most_stops};
-ghost use Rattle.stop_schedule.specs.Lists.{HasPutSome, IsInsertionInto, pickup_of, dropoff_of, with_both, with_legs};
+ghost use Rattle.stop_schedule.specs.Lists.{HasPutSome, IsInsertionInto, node_at, pickup_of, dropoff_of, with_both, with_legs};
 
 use crate::request::Request;
-use crate::stop::{Insertion, Promise, Stop, StopKind};
+use crate::stop::{Front, Insertion, Promise, Stop, StopKind};
 use ride_base::{Items, NoMemory};
-use road_graph::Walk;
+use road_graph::{NodeNo, Walk};
 use std::alloc::Global;
+
+/// The node of stop k, counted from 1, and of the front for 0.
+pub fn node_at(front: &Front, stops: &[Stop], k: usize) -> NodeNo
+    requires { k ≤ length stops.now }
+    ensures { result ≡ node_at front.now stops.now k }
+{
+    if k == 0 {
+        front.node
+    } else {
+        stops[k - 1].node
+    }
+}
 
 /// The stop at which the riders of a request get on.
 pub fn pickup_stop(request: &Request, promise: &Promise) -> Stop

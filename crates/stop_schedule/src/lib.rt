@@ -16,7 +16,7 @@ mod vehicle;
 mod views;
 mod walks;
 
-pub use insert::{add_shares, dropoff_stop, pickup_stop};
+pub use insert::{add_shares, dropoff_stop, node_at, pickup_stop};
 pub use limits::{
     END_OF_TIME, LATEST_FRONT, LATEST_MOMENT, MOST_RIDERS, MOST_STOPS, MOST_VEHICLES,
 };

@@ -1,4 +1,5 @@
-ghost use Rattle.std.specs.Prelude.{◌≡◌, ℕ, ◌+◌, ◌<◌, ◌≤◌, ◌^◌, ◌⊎◌, List, length, IfOk, slice_get, Some};
+ghost use Rattle.std.specs.Prelude.{◌≡◌, ℕ, ◌+◌, ◌<◌, ◌≤◌, ◌⊎◌, List, length, IfOk, slice_get, Some};
+ghost use Rattle.road_graph.specs.Limits.{far};
 ghost use Rattle.road_graph.specs.Paths.{Path, length_of};
 ghost use Rattle.stop_schedule.specs.Bounds.{IsBounded, AreSmallStops, AreShortLegs};
 ghost use Rattle.stop_schedule.specs.Limits.{latest_moment, latest_front, end_of_time, most_stops, most_riders};
@@ -216,7 +217,7 @@ impl Schedule {
     pub fn leg(&self, i: usize) -> &Walk
         requires { i < length self.now.stops }
         ensures value { slice_get self.now.legs i ≡ Some result.now }
-        ensures bound { length_of result.now < 2 ^ 53 }
+        ensures bound { length_of result.now < far }
     {
         &self.legs.as_slice()[i]
     }
@@ -235,7 +236,7 @@ impl Schedule {
     pub fn dep(&self, params: &Params, i: usize) -> u64
         requires { i ≤ length self.now.stops }
         ensures value { result ≡ departs params.now.stop (course_of self.now) i }
-        ensures bound { result + 2 ^ 53 ≤ end_of_time }
+        ensures bound { result + far ≤ end_of_time }
     {
         let mut departure = self.departure;
         let mut halt = self.halt_at(0);

@@ -1,10 +1,10 @@
-use Rattle.std.proofs.Common.{◌≡◌, ◌++◌, subst, arith, ◌∙◌}
-use Rattle.journal_text.specs.Groups.{group}
+use Rattle.std.proofs.Common.{subst, arith, ◌∙◌}
 use Rattle.board_core.specs.declared.entry.Submitted.{Submitted}
 use Rattle.board_core.specs.declared.entry.Entry.TheVariants.{Submit}
 use Rattle.board_core.specs.BoardViews.{board_of}
 use Rattle.board_core.specs.Steps.{Step}
-use Rattle.dispatch_top.proofs.Answered.{good_still, on_ok, refused, request_in, step_nodes, taken, version_next, waits}
+use Rattle.dispatch_top.specs.Answering.{IsTold}
+use Rattle.dispatch_top.proofs.Answered.{few_then, good_still, has_room, on_ok, refused, request_in, step_nodes, taken, version_next, waits}
 use Rattle.dispatch_top.proofs.answer.answer_ride.Goals as goal
 
 pub answer_waiting-requires-clause-version : goal.answer_waiting-requires-clause-version
@@ -22,11 +22,19 @@ answer_waiting-requires-clause-request g c = request_in c.args.graph.now (board_
 pub answer_waiting-requires-clause-waits : goal.answer_waiting-requires-clause-waits
 answer_waiting-requires-clause-waits g c = waits c.args.graph.now (board_of c.args.board.now) (board_of c.submit.new.self) c.args.request.now (subst (λ (s : Submitted). Step c.args.graph.now (board_of c.args.board.now) (Submit c.args.request.now s) (board_of c.submit.new.self)) c.in-Accepted.is (c.in_ok-submitted.ensures.ok c.args.graph.now))
 
+pub tell-requires-clause-room : goal.tell-requires-clause-room
+tell-requires-clause-room g c = has_room (board_of c.args.board.now) c.args.sums.now (omega (arith, c.requires.ready.early)) c.requires.few
+
+pub answer_waiting-requires-clause-few : goal.answer_waiting-requires-clause-few
+answer_waiting-requires-clause-few g c = few_then c.args.graph.now (board_of c.args.board.now) (board_of c.submit.new.self) c.args.request.now c.args.text.now.items c.tell.new.text.items c.in_ok-submitted.submitted c.args.sums.now c.tell.new.sums (c.in_ok-submitted.ensures.ok c.args.graph.now) c.requires.few c.in_ok-tell.ensures
+
 pub returns-in-Refused-clause-answered : goal.returns-in-Refused-clause-answered
-returns-in-Refused-clause-answered g c = refused c.args.graph.now (board_of c.args.board.now) (board_of c.submit.new.self) c.args.request.now c.in-Refused.field-0 c.args.text.now.items c.render.new.out.items
+returns-in-Refused-clause-answered g c = refused c.args.graph.now (board_of c.args.board.now) (board_of c.submit.new.self) c.args.request.now c.in-Refused.field-0 c.args.text.now.items c.tell.new.text.items c.args.sums.now c.tell.new.sums
     (subst (λ (s : Submitted). Step c.args.graph.now (board_of c.args.board.now) (Submit c.args.request.now s) (board_of c.submit.new.self)) c.in-Refused.is (c.in_ok-submitted.ensures.ok c.args.graph.now)) c.requires.empty
-    (subst (λ (s : Submitted). c.render.new.out.items ≡ c.args.text.now.items ++ group (Submit c.args.request.now s)) c.in-Refused.is c.in_ok-render.ensures.ok)
+    (subst (λ (s : Submitted). IsTold (Submit c.args.request.now s) c.args.text.now.items c.tell.new.text.items c.args.sums.now c.tell.new.sums) c.in-Refused.is c.in_ok-tell.ensures) c.requires.few
 
 pub returns-in-Accepted-clause-answered : goal.returns-in-Accepted-clause-answered
-returns-in-Accepted-clause-answered g c = on_ok c.answer_waiting.result (λ h. taken c.args.graph.now (board_of c.args.board.now) (board_of c.submit.new.self) (board_of c.answer_waiting.new.board) c.args.request.now c.args.text.now.items c.render.new.out.items c.answer_waiting.new.text.items (subst (λ (s : Submitted). Step c.args.graph.now (board_of c.args.board.now) (Submit c.args.request.now s) (board_of c.submit.new.self)) c.in-Accepted.is (c.in_ok-submitted.ensures.ok c.args.graph.now)) c.requires.empty
-    (subst (λ (s : Submitted). c.render.new.out.items ≡ c.args.text.now.items ++ group (Submit c.args.request.now s)) c.in-Accepted.is c.in_ok-render.ensures.ok) h) c.answer_waiting.ensures.committed
+returns-in-Accepted-clause-answered g c =
+    on_ok c.answer_waiting.result (λ h. taken c.args.graph.now (board_of c.args.board.now) (board_of c.submit.new.self) (board_of c.answer_waiting.new.board) c.args.request.now c.args.text.now.items c.tell.new.text.items c.answer_waiting.new.text.items c.args.sums.now c.tell.new.sums c.answer_waiting.new.sums
+    (subst (λ (s : Submitted). Step c.args.graph.now (board_of c.args.board.now) (Submit c.args.request.now s) (board_of c.submit.new.self)) c.in-Accepted.is (c.in_ok-submitted.ensures.ok c.args.graph.now)) c.requires.empty
+    (subst (λ (s : Submitted). IsTold (Submit c.args.request.now s) c.args.text.now.items c.tell.new.text.items c.args.sums.now c.tell.new.sums) c.in-Accepted.is c.in_ok-tell.ensures) h) c.answer_waiting.ensures.committed

@@ -1,6 +1,5 @@
-use Rattle.std.proofs.Common.{refl, ap, sym, ◌∙◌, [], ◌∷◌, Err, ℕ, subst}
+use Rattle.std.proofs.Common.{refl, ap, [], ◌∷◌, Err, ℕ, subst}
 use Rattle.ride_base.specs.Calls.{call_of}
-use Rattle.ride_base.specs.Outside.{ShelfState}
 use Rattle.dispatch_top.specs.Texts.{StopsFleet}
 use Rattle.dispatch_top.proofs.Moves.{reads_as, reads_fewer, reads_more}
 use Rattle.dispatch_top.proofs.ReadTexts.{both_read, ends_at_fleet, ends_at_graph, fleet_failed, fleet_fails, graph_failed, graph_fails}

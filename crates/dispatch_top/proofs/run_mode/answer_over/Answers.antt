@@ -1,4 +1,4 @@
-use Rattle.std.proofs.Common.{refl, ap, inl, [], ◌∷◌}
+use Rattle.std.proofs.Common.{refl, inl, [], ◌∷◌}
 use Rattle.dispatch_top.specs.declared.stops.OutputStop.TheVariants.{NoMemory}
 use Rattle.dispatch_top.specs.Stops.{status_of_stream}
 use Rattle.dispatch_top.proofs.Dispatchers.{dispatched}

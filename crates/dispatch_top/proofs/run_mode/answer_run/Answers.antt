@@ -1,4 +1,4 @@
-use Rattle.std.proofs.Common.{refl, ap, sym, ◌∙◌, [], ◌∷◌, Ok, Err}
+use Rattle.std.proofs.Common.{ap, [], ◌∷◌, Ok, Err}
 use Rattle.dispatch_top.specs.Stops.{status_of_stream}
 use Rattle.dispatch_top.proofs.Moves.{reads_as, reads_fewer, reads_more, writes_as, writes_nothing}
 use Rattle.dispatch_top.proofs.StatusOf.{at_fault, ends_over, unwritten_reading, unwritten_stream}

@@ -1,14 +1,15 @@
-use Rattle.std.proofs.Common.{None, Some, false, refl, sym, ap, ◌∙◌, subst, Option}
+use Rattle.std.proofs.Common.{None, [], false, refl, sym, subst, Option}
 use Rattle.std.specs.Prelude.{map, string_bytes}
-use Rattle.command_words.specs.Commands.{Form, Walk}
+use Rattle.command_words.specs.Commands.{Form, Walk, Gen}
 use Rattle.ride_base.specs.Calls.{call_of}
 use Rattle.dispatch_top.specs.declared.words.Task.{Task}
 use Rattle.dispatch_top.specs.Asking.{AsksFor, run_form}
 use Rattle.dispatch_top.specs.Behaving.{Behaves}
 use Rattle.dispatch_top.specs.Forms.{run_asks}
 use Rattle.dispatch_top.proofs.Behaves.{behaves}
-use Rattle.dispatch_top.proofs.Completes.{completes_as, run_completes, walk_completes}
+use Rattle.dispatch_top.proofs.Completes.{completes_as, gen_completes, run_completes, walk_completes}
 use Rattle.dispatch_top.proofs.EndsUnmoved.{complete_later, complete_unread, ends_later, ends_unread}
+use Rattle.dispatch_top.proofs.Moves.{reads_nothing}
 use Rattle.dispatch_top.proofs.runs.run.Goals as goal
 
 pub returns-in-Ok-Run-clause-complete : goal.returns-in-Ok-Run-clause-complete
@@ -44,6 +45,20 @@ returns-in-Ok-Walk-clause-quiet g c = c.print_walk.ensures.shelf.quietly
 
 pub returns-in-Ok-Walk-clause-kept : goal.returns-in-Ok-Walk-clause-kept
 returns-in-Ok-Walk-clause-kept g c = c.print_walk.ensures.sink.quietly
+
+pub returns-in-Ok-Gen-clause-complete : goal.returns-in-Ok-Gen-clause-complete
+returns-in-Ok-Gen-clause-complete g c =
+    completes_as _ (Gen c.in-Ok-Gen.number) (call_of (g.S.Shelf.seen c.args.shelf.now) (g.K.Sink.seen c.args.sink.now) (g.S.Shelf.seen c.args.shelf.now) (g.K.Sink.seen c.print_summary.new.sink)) c.print_summary.result c.print_summary.result (subst (λ (x : Task). AsksFor x (run_asks (map string_bytes c.args.words.now))) c.in-Ok-Gen.field-0-is c.in-Ok-Gen.ensures.asks) refl
+    (gen_completes (call_of (g.S.Shelf.seen c.args.shelf.now) (g.K.Sink.seen c.args.sink.now) (g.S.Shelf.seen c.args.shelf.now) (g.K.Sink.seen c.print_summary.new.sink)) c.in-Ok-Gen.number c.print_summary.result (c.print_summary.ensures.ends (g.S.Shelf.seen c.args.shelf.now))
+    (behaves (Gen c.in-Ok-Gen.number) (call_of (g.S.Shelf.seen c.args.shelf.now) (g.K.Sink.seen c.args.sink.now) (g.S.Shelf.seen c.args.shelf.now) (g.K.Sink.seen c.print_summary.new.sink)) c.print_summary.result (reads_nothing [] _ (g.S.Shelf.seen c.args.shelf.now) c.print_summary.ensures.unread) c.print_summary.ensures.sink))
+
+pub returns-in-Ok-Gen-clause-behaves : goal.returns-in-Ok-Gen-clause-behaves
+returns-in-Ok-Gen-clause-behaves g c =
+    subst (λ (o : Option Form). Behaves o c.print_summary.result (call_of (g.S.Shelf.seen c.args.shelf.now) (g.K.Sink.seen c.args.sink.now) (g.S.Shelf.seen c.args.shelf.now) (g.K.Sink.seen c.print_summary.new.sink))) (sym (subst (λ (x : Task). AsksFor x (run_asks (map string_bytes c.args.words.now))) c.in-Ok-Gen.field-0-is c.in-Ok-Gen.ensures.asks))
+    (behaves (Gen c.in-Ok-Gen.number) (call_of (g.S.Shelf.seen c.args.shelf.now) (g.K.Sink.seen c.args.sink.now) (g.S.Shelf.seen c.args.shelf.now) (g.K.Sink.seen c.print_summary.new.sink)) c.print_summary.result (reads_nothing [] _ (g.S.Shelf.seen c.args.shelf.now) c.print_summary.ensures.unread) c.print_summary.ensures.sink)
+
+pub returns-in-Ok-Gen-clause-kept : goal.returns-in-Ok-Gen-clause-kept
+returns-in-Ok-Gen-clause-kept g c = c.print_summary.ensures.sink.quietly
 
 pub returns-in-Ok-Later-clause-complete : goal.returns-in-Ok-Later-clause-complete
 returns-in-Ok-Later-clause-complete g c = complete_later (run_asks (map string_bytes c.args.words.now)) (call_of (g.S.Shelf.seen c.args.shelf.now) (g.K.Sink.seen c.args.sink.now) (g.S.Shelf.seen c.args.shelf.now) (g.K.Sink.seen c.args.sink.now)) (subst (λ (x : Task). AsksFor x (run_asks (map string_bytes c.args.words.now))) c.in-Ok-Later.field-0-is c.in-Ok-Later.ensures.asks)

@@ -1,4 +1,4 @@
-use Rattle.std.proofs.Common.{ℕ, List, ◌==◌, refl, sym, ap, subst, ◌∙◌, length}
+use Rattle.std.proofs.Common.{ℕ, List, ◌==◌, sym, ap, subst, ◌∙◌, length}
 use Rattle.std.proofs.lemmas.Bool.{false≢true}
 use Rattle.ride_base.specs.Outside.{Takes}
 use Rattle.dispatch_top.specs.declared.stops.OutputStop.TheVariants.{NoMemory, WriteFault}

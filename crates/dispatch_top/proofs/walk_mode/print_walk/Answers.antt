@@ -1,6 +1,4 @@
-use Rattle.std.proofs.Common.{refl, ap, sym, ◌∙◌, [], ◌∷◌, Ok, Err, inl}
-use Rattle.command_words.specs.Commands.{Walk}
-use Rattle.ride_base.specs.Calls.{call_of}
+use Rattle.std.proofs.Common.{refl, ap, [], ◌∷◌, Ok, Err, inl}
 use Rattle.dispatch_top.specs.declared.stops.ReadingStop.TheVariants.{Graph}
 use Rattle.dispatch_top.specs.Stops.{status_of_written}
 use Rattle.dispatch_top.proofs.Moves.{reads_as, writes_as, writes_nothing}

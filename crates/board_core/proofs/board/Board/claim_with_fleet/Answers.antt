@@ -1,4 +1,4 @@
-use Rattle.std.proofs.Common.{◌≡◌, ◌+◌, [], sym, ap, ◌∙◌}
+use Rattle.std.proofs.Common.{[], ap, ◌∙◌}
 use Rattle.road_graph.specs.Roads.{Roads}
 use Rattle.board_core.specs.BoardKept.{WithIndex}
 use Rattle.board_core.specs.Boards.{Board}

@@ -1,6 +1,6 @@
 use Rattle.std.proofs.Common.{refl}
 use Rattle.commit_check.proofs.Known.{decision_none, decision_some}
-use Rattle.commit_check.proofs.settling.settle.Goals as goal
+use Rattle.commit_check.proofs.settling.settle_among.Goals as goal
 
 pub returns-in_default-clause-decision : goal.returns-in_default-clause-decision
 returns-in_default-clause-decision g c = (
