@@ -1,0 +1,5 @@
+mod Owed
+mod Records
+mod Gathered
+mod Turns
+mod ClaimTurns

@@ -1,0 +1,2 @@
+mod FirstVehicles
+mod Desks
